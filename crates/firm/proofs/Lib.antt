@@ -1,0 +1,13 @@
+pub mod Picks
+pub mod Cases
+pub mod Sums
+pub mod Staying
+pub mod Taking
+pub mod Ledger
+pub mod RecipeTaking
+pub mod Balance
+pub mod Orders
+pub mod Making
+pub mod Worked
+pub mod Bounds
+pub mod Keeping

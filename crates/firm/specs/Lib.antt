@@ -1,0 +1,12 @@
+pub mod Stock
+pub mod Ledger
+pub mod Firm
+pub mod Calls
+pub mod Changes
+pub mod Refusals
+pub mod Answers
+pub mod Promise
+pub mod Keeping
+pub mod Statements
+pub mod Laws
+pub mod Books
