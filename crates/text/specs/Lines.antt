@@ -1,0 +1,43 @@
+-- A text's lines, and which of them are calls. Definitions only: nothing is assumed.
+use mathlib.Core.Bool.{Bool, true, cond, _||_}
+use mathlib.Core.List.{List, [], _∷_, _++_}
+use Prim.Native.Nat.{ℕ, _-_}
+use lib.Dec.{eqb}
+use lib.ListN.{length, getD, take}
+use Rattle.std.specs.Joined.{joined}
+
+-- what stands between line feeds, after the line so far
+abbrev pub lines-after : List ℕ → List ℕ → List (List ℕ)
+lines-after l [] = l ∷ []
+lines-after l (c ∷ cs) = cond (eqb c 10) (l ∷ lines-after [] cs) (lines-after (l ++ c ∷ []) cs)
+
+abbrev pub lines : List ℕ → List (List ℕ)
+lines text = lines-after [] text
+
+-- a line without the one carriage return at its end
+abbrev pub bare : List ℕ → List ℕ
+bare line = cond (eqb (getD line (length line - 1) 0) 13) (take (length line - 1) line) line
+
+-- a space or a tab
+abbrev pub blank : ℕ → Bool
+blank c = eqb c 32 || eqb c 9
+
+-- what is left after the blanks in front
+abbrev pub trimmed : List ℕ → List ℕ
+trimmed [] = []
+trimmed (c ∷ cs) = cond (blank c) (trimmed cs) (c ∷ cs)
+
+-- nothing, or a remark: it begins with '#'
+abbrev pub silent : List ℕ → Bool
+silent [] = true
+silent (c ∷ cs) = eqb c 35
+
+abbrev pub quiet : List ℕ → Bool
+quiet line = silent (trimmed line)
+
+-- the lines that are answered: those that are neither blank nor a remark
+abbrev pub heard : List ℕ → List (List ℕ)
+heard line = cond (quiet (bare line)) [] (bare line ∷ [])
+
+abbrev pub calls : List ℕ → List (List ℕ)
+calls text = joined heard (lines text)
