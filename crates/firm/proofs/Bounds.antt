@@ -8,7 +8,6 @@ use Prim.Native.Nat.{ℕ, _*_, _-_, _≤_}
 use native.Mathlib.Nat.{mul-le-mul}
 use native.Mathlib.Omega.{arith}
 use lib.Dec.{leb, ltb, leb·zero}
-use lib.ListN.{length}
 use Rattle.std.proofs.shelf.Tests.{and-parts, leb-true}
 use Rattle.firm.specs.Stock.{Lot, Part, take, take-all, on-hand, all-worth}
 use Rattle.firm.specs.Ledger.{sum-of}
@@ -20,6 +19,7 @@ use Rattle.firm.specs.Statements.{Reached}
 use Rattle.firm.specs.Laws.{Lacking-is, Reached-fits, Small, All-small, Lots-small, Products-small}
 use Rattle.firm.proofs.Picks.{counts, counts-not}
 use Rattle.firm.proofs.Cases.{take-cases, counted-cases, reached-keeps}
+use Rattle.firm.proofs.Fitting.{Fits, fits-parts}
 
 -- what is lacking is what is not on hand
 pub take-lacking : Lacking-is
@@ -39,6 +39,9 @@ fits-new l = simp leb·zero
 
 pub reached-fits : Reached-fits
 reached-fits l = reached-keeps l (λ g. fits l g ≡ true) (λ f c k _. k .fitting) (fits-new l)
+
+pub reached-parts : (l : Limits) (f : Firm) → Reached l f → Fits l f
+reached-parts l f r = fits-parts l f (reached-fits l f r)
 
 small-push : (ls : List Lot) (l : Lot) → All-small ls → Small l → All-small (ls ++ (l ∷ []))
 small-push [] l h k = (k, tt)
@@ -107,18 +110,9 @@ unfolding all-worth
 worth-at [] ys x = omega arith
 worth-at (y ∷ xs) ys x = omega (arith, worth-at xs ys x)
 
--- what is reached costs at most 10 ^ 12
-pub reached-worth : (l : Limits) (f : Firm) → Reached l f → all-worth (f .lots) ≤ 1000000000000
-reached-worth l f r =
-    let a = and-parts _ ((leb (recipe-parts (f .recipes)) (l .parts) && leb (length (f .entries)) (l .entries))
-    && (leb (sum-of (f .entries)) 1000000000000000 && (leb (all-worth (f .lots)) 1000000000000 && leb (f .documents) 1099511627776))) (reached-fits l f r) .1 in
-    let b = and-parts _ (leb (sum-of (f .entries)) 1000000000000000 && (leb (all-worth (f .lots)) 1000000000000 && leb (f .documents) 1099511627776)) a .1 in
-    let c = and-parts _ (leb (all-worth (f .lots)) 1000000000000 && leb (f .documents) 1099511627776) b .1 in
-    leb-true _ _ (and-parts (leb (all-worth (f .lots)) 1000000000000) (leb (f .documents) 1099511627776) c .0)
-
 pub products-small : Products-small
 products-small l f xs ys x r e =
     let small = small-at xs ys x (subst All-small e (reached-small l f r)) in
-    let cheap : all-worth (xs ++ (x ∷ ys)) ≤ 1000000000000 = subst (λ ls. all-worth ls ≤ 1000000000000) e (reached-worth l f r) in
+    let cheap : all-worth (xs ++ (x ∷ ys)) ≤ 1000000000000 = subst (λ ls. all-worth ls ≤ 1000000000000) e (leb-true _ _ (reached-parts l f r .worth)) in
     let cost : x .cost ≤ 1000000000000 = omega (arith, worth-at xs ys x) in
     omega (arith, product-small x small cost)

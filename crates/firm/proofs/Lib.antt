@@ -9,5 +9,8 @@ pub mod Balance
 pub mod Orders
 pub mod Making
 pub mod Worked
+pub mod Fitting
 pub mod Bounds
 pub mod Keeping
+pub mod Known
+pub mod Turned

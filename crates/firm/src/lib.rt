@@ -9,6 +9,7 @@ mod statements;
 pub use examples::worked_books_stands;
 pub use laws::lacking_is_stands;
 pub use laws::lots_small_stands;
+pub use laws::orders_known_stands;
 pub use laws::products_small_stands;
 pub use laws::reached_fits_stands;
 pub use promises::Keeps;
