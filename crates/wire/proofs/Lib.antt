@@ -1,0 +1,11 @@
+pub mod AnswerBytes
+pub mod AnswerLaws
+pub mod CallLaws
+pub mod Forms
+pub mod Heads
+pub mod ListLaws
+pub mod OneReading
+pub mod ReadBack
+pub mod RecipeBytes
+pub mod RowLaws
+pub mod Tables
