@@ -1,0 +1,11 @@
+pub mod Counts
+pub mod Paths
+pub mod Keeps
+pub mod Steps
+pub mod Gather
+pub mod Addresses
+pub mod View
+pub mod Loops
+pub mod Opened
+pub mod Frames
+pub mod Laws

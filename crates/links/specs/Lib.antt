@@ -1,0 +1,4 @@
+pub mod Tables
+pub mod Model
+pub mod Area
+pub mod Rows

@@ -1,0 +1,4 @@
+pub mod Slots
+pub mod Head
+pub mod Opened
+pub mod Laws

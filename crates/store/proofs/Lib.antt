@@ -1,0 +1,11 @@
+pub mod Kept
+pub mod Numbered
+pub mod Beside
+pub mod Tables
+pub mod LotSteps
+pub mod LotLaws
+pub mod OrderLaws
+pub mod EntryLaws
+pub mod RecipeLaws
+pub mod TotalLaws
+pub mod Opening
