@@ -1,0 +1,11 @@
+use Prim.Native.Nat.{_-_}
+use mathlib.Core.Path.{_≡_}
+use Rattle.records.specs.State.{state}
+use Rattle.questions.specs.Sums.{sides-step, sides-of}
+use Rattle.questions.specs.Walk.{walked-from}
+use Rattle.questions.proofs.sums.sides_of.Given as given
+
+abbrev pub Inv-loop-turn : given.InvT-loop-turn
+Inv-loop-turn l =
+    walked-from (sides-step (l .limits) (state (l .wide) (l .narrow))) (l .rows .cells - l .-turn) (l .rows) (l .narrow) (l .place) (l .balance)
+    ≡ sides-of (l .limits) (l .account) (state (l .wide) (l .narrow))

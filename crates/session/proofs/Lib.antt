@@ -1,0 +1,11 @@
+pub mod Small
+pub mod Saying
+pub mod Doing
+pub mod Steps
+pub mod Turning
+pub mod Buying
+pub mod Receiving
+pub mod Counting
+pub mod Asking
+pub mod Keeping
+pub mod Called

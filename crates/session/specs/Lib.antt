@@ -1,0 +1,5 @@
+pub mod Boundary
+pub mod Opening
+pub mod Calling
+pub mod Means
+pub mod Keeper
