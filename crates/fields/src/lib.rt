@@ -4,6 +4,7 @@ mod writing;
 
 pub use reading::first_field;
 pub use reading::four_in_row;
+pub use reading::leading_field;
 pub use reading::one_field;
 pub use reading::three_fields;
 pub use reading::two_fields;
@@ -13,6 +14,8 @@ pub use writing::put_one;
 pub use writing::put_three;
 pub use writing::put_two;
 
+/// The bytes of a field.
+pub const FIELD: usize = 8;
 /// The bytes of a kind and one field.
 pub const ONE_FIELD: usize = 9;
 /// The bytes of a kind and two fields.

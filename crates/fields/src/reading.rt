@@ -3,8 +3,10 @@ ghost use Prim.Native.Nat.{_+_, _*_, _≤_};
 ghost use mathlib.Core.Bool.{cond};
 ghost use lib.Dec.{leb};
 ghost use lib.ListN.{length};
+ghost use Rattle.std.specs.declared.option.Option.the-variants.{Some, None};
 ghost use Rattle.std.specs.declared.result.Result.the-variants.{Ok, Err};
 ghost use Rattle.fields.specs.Bytes.{field-at, sized, nth-row};
+use crate::FIELD;
 use crate::ONE_FIELD;
 use crate::ROW_OF_FOUR;
 use crate::ROW_OF_TWO;
@@ -92,4 +94,14 @@ pub fn four_in_row(rows: &[u8], k: usize) -> Option<(u64, u64, u64, u64)>
         field_at(rows, at + 16),
         field_at(rows, at + 24),
     ))
+}
+
+/// The field that the bytes begin with, if they are so many.
+pub fn leading_field(bytes: &[u8]) -> Option<u64>
+    ensures { λ r. ⌜ r ≡ cond (leb 8 (length (now (bytes .entry)))) (Some (field-at 0 (now (bytes .entry)))) None ⌝ }
+{
+    if bytes.len() < FIELD {
+        return None;
+    }
+    Some(field_at(bytes, 0))
 }

@@ -32,7 +32,7 @@ pub record Answered (l : Limits) (f : Firm) (c : Call) (old : List ℕ) (k : Cal
   pub bytes : k .bytes ≡ over (bytes-of-answer (answer l f c)) old
   pub means : Means (limits-of l) (k .left) (after l f c)
 
-good-tested : (l : memory.Limits) → Good l → is-good l ≡ true
+pub good-tested : (l : memory.Limits) → Good l → is-good l ≡ true
 good-tested l g =
     and-from (leb (l .items) 4096) _ (le-leb _ _ (g .items)) (and-from (leb (l .orders) 65536) _ (le-leb _ _ (g .orders)) (and-from (leb (l .lots) 65536) _ (le-leb _ _ (g .lots))
     (and-from (leb (l .parts) 65536) (leb (l .entries) 1000000) (le-leb _ _ (g .parts)) (le-leb _ _ (g .entries)))))

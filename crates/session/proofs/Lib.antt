@@ -9,3 +9,5 @@ pub mod Counting
 pub mod Asking
 pub mod Keeping
 pub mod Called
+pub mod Framing
+pub mod Turns

@@ -3,3 +3,4 @@ pub mod Opening
 pub mod Calling
 pub mod Means
 pub mod Keeper
+pub mod Running
