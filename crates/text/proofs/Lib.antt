@@ -1,2 +1,5 @@
 mod Splitting
-mod Turns
+mod Carried
+mod Sent
+mod Lined
+mod Going

@@ -1,10 +1,11 @@
 -- A text's lines, and which of them are calls. Definitions only: nothing is assumed.
-use mathlib.Core.Bool.{Bool, true, cond, _||_}
+use mathlib.Core.Bool.{Bool, true, cond}
 use mathlib.Core.List.{List, [], _∷_, _++_}
 use Prim.Native.Nat.{ℕ, _-_}
 use lib.Dec.{eqb}
 use lib.ListN.{length, getD, take}
 use Rattle.std.specs.Joined.{joined}
+use Rattle.words.specs.Words.{trimmed}
 
 -- what stands between line feeds, after the line so far
 abbrev pub lines-after : List ℕ → List ℕ → List (List ℕ)
@@ -18,15 +19,6 @@ lines text = lines-after [] text
 abbrev pub bare : List ℕ → List ℕ
 bare line = cond (eqb (getD line (length line - 1) 0) 13) (take (length line - 1) line) line
 
--- a space or a tab
-abbrev pub blank : ℕ → Bool
-blank c = eqb c 32 || eqb c 9
-
--- what is left after the blanks in front
-abbrev pub trimmed : List ℕ → List ℕ
-trimmed [] = []
-trimmed (c ∷ cs) = cond (blank c) (trimmed cs) (c ∷ cs)
-
 -- nothing, or a remark: it begins with '#'
 abbrev pub silent : List ℕ → Bool
 silent [] = true
@@ -39,5 +31,5 @@ quiet line = silent (trimmed line)
 abbrev pub heard : List ℕ → List (List ℕ)
 heard line = cond (quiet (bare line)) [] (bare line ∷ [])
 
-abbrev pub calls : List ℕ → List (List ℕ)
-calls text = joined heard (lines text)
+abbrev pub call-lines : List ℕ → List (List ℕ)
+call-lines text = joined heard (lines text)

@@ -4,7 +4,8 @@ ghost use mathlib.Core.Path.{_≡_};
 ghost use mathlib.Core.List.{_++_};
 ghost use Prim.Native.Nat.{_<_, _≤_};
 ghost use lib.ListN.{length, getD, take, drop};
-ghost use Rattle.text.specs.Lines.{lines-after, lines, bare as bareLine, blank, trimmed, quiet, heard, calls};
+ghost use Rattle.text.specs.Lines.{lines-after, lines, bare as bareLine, quiet, heard, call-lines};
+use words::skip_blanks;
 
 // How long the first line is.
 fn line_len(text: &[u8]) -> usize
@@ -21,7 +22,7 @@ fn line_len(text: &[u8]) -> usize
 
 /// The first line, and what comes after it.
 pub fn first_line(text: &[u8]) -> (&[u8], &[u8])
-    ensures parts { λ r. ⌜ calls (now (text .entry)) ≡ heard (now (r .0)) ++ calls (now (r .1)) ⌝ }
+    ensures parts { λ r. ⌜ call-lines (now (text .entry)) ≡ heard (now (r .0)) ++ call-lines (now (r .1)) ⌝ }
     ensures shorter { λ r. ⌜ (0 < length (now (text .entry)) → length (now (r .1)) < length (now (text .entry))) ⌝ }
 {
     let n = line_len(text);
@@ -42,23 +43,6 @@ pub fn bare(line: &[u8]) -> &[u8]
     } else {
         line
     }
-}
-
-fn is_blank(byte: u8) -> bool
-    ensures { λ r. ⌜ r ≡ blank byte ⌝ }
-{
-    byte == b' ' || byte == b'\t'
-}
-
-/// What is left after the blanks in front.
-pub fn skip_blanks(line: &[u8]) -> &[u8]
-    ensures { λ r. ⌜ now r ≡ trimmed (now (line .entry)) ⌝ }
-{
-    let mut i = 0;
-    while i < line.len() && is_blank(line[i]) {
-        i += 1;
-    }
-    &line[i..]
 }
 
 /// Whether a line is no call: it is blank, or a remark.

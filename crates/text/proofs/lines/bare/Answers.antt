@@ -2,7 +2,6 @@ use mathlib.Core.Path.{_≡_, sym, refl}
 use mathlib.Core.List.{List, [], _∷_}
 use Prim.Native.Nat.{ℕ, _-_, _≤_}
 use native.Mathlib.Omega.{arith}
-use lib.Dec.{eqb}
 use lib.ListN.{length, getD}
 use Rattle.std.proofs.shelf.Tests.{cond-false, ne-eqb}
 use Rattle.text.specs.Lines.{bare}
