@@ -8,8 +8,8 @@ use Rattle.wire.specs.Rows.{rows, lot_in, entry_in}
 use Rattle.wire.specs.Told.{lots_in, entries_in, if_lines}
 use Rattle.firm.specs.Calls.{Answer, lots, entries}
 use Rattle.answer_lines.specs.Shown.{shown, shown_list, shown_lot, shown_entry}
-use Rattle.answer_lines.specs.declared.showing.Showing.TheVariants.{Taken, NoAnswer}
-use Rattle.answer_lines.specs.Showings.{showing, shown_if, showing_of, whole, lines_showing, lines_shown}
+use Rattle.answer_lines.specs.declared.showing.Showing.TheVariants.{Shown, NoAnswer}
+use Rattle.answer_lines.specs.Showings.{shown_if, showing_of, whole, lines_showing, lines_shown}
 use Rattle.answer_lines.specs.Quads.{Quad, quad_in, quads_in, shown_quad, another_quad}
 
 -- the first line, as it is read
@@ -85,14 +85,14 @@ unfolding quads_in quad_in entries_in entry_in
 entries_same bs = list_same shown_entry entry_in (λ x. refl) (length bs / 32) bs
 
 -- a list is shown by its lines, if they are whole
-if_whole : (b : Bool) (a : Answer) (s : List ℕ) → showing a ≡ Taken → s ≡ shown a → (cond b Taken NoAnswer ≡ showing_of (cond b (Some a) None)) × (cond b s [] ≡ shown_if (cond b (Some a) None))
-if_whole true a s k e = (sym k, e)
-if_whole false a s k e = (refl, refl)
+if_whole : (b : Bool) (a : Answer) (s : List ℕ) → s ≡ shown a → (cond b Shown NoAnswer ≡ showing_of (cond b (Some a) None)) × (cond b s [] ≡ shown_if (cond b (Some a) None))
+if_whole true a s e = (refl, e)
+if_whole false a s e = (refl, refl)
 
 pub lots_shown : (bs : List ℕ) → (lines_showing bs ≡ showing_of (if_lines bs (lots (lots_in bs)))) × (lines_shown bs ≡ shown_if (if_lines bs (lots (lots_in bs))))
 unfolding shown
-lots_shown bs = if_whole (whole bs) (lots (lots_in bs)) (shown_list shown_quad (quads_in bs)) refl (lots_same bs)
+lots_shown bs = if_whole (whole bs) (lots (lots_in bs)) (shown_list shown_quad (quads_in bs)) (lots_same bs)
 
 pub entries_shown : (bs : List ℕ) → (lines_showing bs ≡ showing_of (if_lines bs (entries (entries_in bs)))) × (lines_shown bs ≡ shown_if (if_lines bs (entries (entries_in bs))))
 unfolding shown
-entries_shown bs = if_whole (whole bs) (entries (entries_in bs)) (shown_list shown_quad (quads_in bs)) refl (entries_same bs)
+entries_shown bs = if_whole (whole bs) (entries (entries_in bs)) (shown_list shown_quad (quads_in bs)) (entries_same bs)

@@ -1,9 +1,9 @@
 -- What is shown of bytes, and whether they are an answer. Definitions only: nothing is assumed.
 use Rattle.std.specs.Prelude.{◌≡◌, ℕ, ◌%◌, Bool, true, cond, List, [], length, Some, None, Option, ◌==◌}
-use Rattle.firm.specs.Calls.{Answer, refused, number, two, lots, entries}
+use Rattle.firm.specs.Calls.{Answer}
 use Rattle.wire.specs.Answers.{bytes_of_answer, carries, answer_of}
 use Rattle.answer_lines.specs.declared.showing.Showing.{Showing}
-use Rattle.answer_lines.specs.declared.showing.Showing.TheVariants.{Taken, Refused, NoAnswer}
+use Rattle.answer_lines.specs.declared.showing.Showing.TheVariants.{Shown, NoAnswer}
 use Rattle.answer_lines.specs.Shown.{shown, shown_list}
 use Rattle.answer_lines.specs.Quads.{quads_in, shown_quad}
 
@@ -12,28 +12,20 @@ abbrev pub shown_if : Option Answer → List ℕ
 shown_if None = []
 shown_if (Some a) = shown a
 
--- whether an answer is a refusal, and which
-abbrev pub showing : Answer → Showing
-showing (refused n k) = Refused n
-showing (number n) = Taken
-showing (two a b) = Taken
-showing (lots ls) = Taken
-showing (entries es) = Taken
-
 abbrev pub showing_of : Option Answer → Showing
 showing_of None = NoAnswer
-showing_of (Some a) = showing a
+showing_of (Some a) = Shown
 
 -- what is shown of the lines of a list: they have to be whole
 abbrev pub whole : List ℕ → Bool
 whole bs = length bs % 32 == 0
 
 abbrev pub lines_showing : List ℕ → Showing
-lines_showing bs = cond (whole bs) Taken NoAnswer
+lines_showing bs = cond (whole bs) Shown NoAnswer
 
 abbrev pub lines_shown : List ℕ → List ℕ
 lines_shown bs = cond (whole bs) (shown_list shown_quad (quads_in bs)) []
 
 -- every answer that bytes can carry is shown from its bytes
 abbrev pub AnswersShown : Type 0
-AnswersShown = (a : Answer) → carries a ≡ true → (showing_of (answer_of (bytes_of_answer a)) ≡ showing a) × (shown_if (answer_of (bytes_of_answer a)) ≡ shown a)
+AnswersShown = (a : Answer) → carries a ≡ true → (showing_of (answer_of (bytes_of_answer a)) ≡ Shown) × (shown_if (answer_of (bytes_of_answer a)) ≡ shown a)

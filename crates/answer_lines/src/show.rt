@@ -32,7 +32,7 @@ fn put_lines(out: &mut Vec<u8>, lines: &[u8]) -> Result<Showing, AllocError>
         return Ok(Showing::NoAnswer);
     }
     put_quads(out, lines)?;
-    Ok(Showing::Taken)
+    Ok(Showing::Shown)
 }
 
 fn put_answer(out: &mut Vec<u8>, answer: Answer<'_>) -> Result<Showing, AllocError>
@@ -40,20 +40,16 @@ fn put_answer(out: &mut Vec<u8>, answer: Answer<'_>) -> Result<Showing, AllocErr
     ensures text { OnOk result (out.new.items ≡ out.old.items ++ shown_if (told answer.entry)) }
 {
     match answer {
-        Answer::Refused(refusal, place) => {
-            let number = refusal_number(refusal);
-            put_refusal(out, number, place)?;
-            return Ok(Showing::Refused(number));
-        }
+        Answer::Refused(refusal, place) => put_refusal(out, refusal_number(refusal), place)?,
         Answer::Number(n) => put_number(out, n)?,
         Answer::Two(a, b) => put_two(out, a, b)?,
         Answer::Lots(lines) => return Ok(put_lines(out, lines)?),
         Answer::Entries(lines) => return Ok(put_lines(out, lines)?),
     }
-    Ok(Showing::Taken)
+    Ok(Showing::Shown)
 }
 
-/// Appends the text of the answer whose bytes these are, and says whether it is a refusal. Of bytes that are no answer's it appends nothing, and says so. An
+/// Appends the text of the answer whose bytes these are, and says that it is shown. Of bytes that are no answer's it appends nothing, and says so. An
 /// `Err` only for want of memory.
 pub fn show_answer(out: &mut Vec<u8>, answer: &[u8]) -> Result<Showing, AllocError>
     ensures showing { IfOk result (λ x. x ≡ showing_of (answer_of answer.now)) }

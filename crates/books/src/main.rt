@@ -1,20 +1,17 @@
-//! `books [--items N] [--orders N] [--lots N] [--parts N] [--entries N] [FILE]`: answers the calls of a file all at once, or those of standard input
-//! each as it comes.
+//! `books [--items N] [--orders N] [--lots N] [--parts N] [--entries N] [FILE]`: answers the calls of a file, or of standard input, a line each.
 
-mod typed;
+mod limit;
+mod request;
 
-use command_line::{Failed, Request, bad_limits, no_memory, read, text_of, write};
-use layout::Limits;
-use session::RunError;
-use text::run;
-use typed::answer_typed;
-
-const NAME: &str = "books";
+use request::{Failed, Request};
+use std::fs;
+use std::io::{Read, Write};
+use text::{RunError, run};
 
 const HELP: &str =
     "usage: books [--items N] [--orders N] [--lots N] [--parts N] [--entries N] [FILE]
 
-Answers the calls of FILE, or of standard input as they come, a line each.
+Answers the calls of FILE, or of standard input, a line each.
 
   --items N    how many items there can be (32; at most 4096)
   --orders N   how many orders (64; at most 65536)
@@ -24,27 +21,58 @@ Answers the calls of FILE, or of standard input as they come, a line each.
   --help       says this
 ";
 
-// Answers a file of calls.
-fn answer_file(rt: &HostRuntime, limits: Limits, file: &str) -> Result<(), Failed> {
-    let text = text_of(rt, NAME, file)?;
-    match run(rt.alloc(), limits, text.as_slice()) {
-        Ok(answers) => write(rt, NAME, answers.as_slice()),
-        Err(RunError::OutOfMemory) => Err(no_memory(rt, NAME)),
-        Err(RunError::LimitsOutOfRange) => Err(bad_limits(rt, NAME)),
+fn standard_input(rt: &HostRuntime) -> Result<Vec<u8>, Failed> {
+    let mut text = Vec::new(rt.alloc());
+    match rt.stdin().read_to_end(&mut text) {
+        Ok(_) => Ok(text),
+        Err(e) => {
+            let _ = eprintln!(rt; "books: standard input: {e}");
+            Err(Failed)
+        }
     }
 }
 
-fn answer(rt: &HostRuntime, request: &Request) -> Result<(), Failed> {
+fn file(rt: &HostRuntime, name: &str) -> Result<Vec<u8>, Failed> {
+    match fs::read(rt, name) {
+        Ok(text) => Ok(text),
+        Err(e) => {
+            let _ = eprintln!(rt; "books: {name}: {e}");
+            Err(Failed)
+        }
+    }
+}
+
+fn write(rt: &HostRuntime, bytes: &[u8]) -> Result<(), Failed> {
+    if let Err(e) = rt.stdout().write_all(bytes) {
+        let _ = eprintln!(rt; "books: standard output: {e}");
+        return Err(Failed);
+    }
+    Ok(())
+}
+
+// The text of calls.
+fn input(rt: &HostRuntime, request: &Request) -> Result<Vec<u8>, Failed> {
     match &request.file {
-        Some(file) => answer_file(rt, request.limits, file.as_str()),
-        None => answer_typed(rt, NAME, request.limits),
+        Some(name) => file(rt, name.as_str()),
+        None => standard_input(rt),
     }
 }
 
 fn main(rt: HostRuntime) -> Result<(), Failed> {
-    let request = read(&rt, NAME)?;
+    let request = Request::read(&rt)?;
     if request.help {
-        return write(&rt, NAME, HELP.as_bytes());
+        return write(&rt, HELP.as_bytes());
     }
-    answer(&rt, &request)
+    let text = input(&rt, &request)?;
+    match run(rt.alloc(), request.limits, text.as_slice()) {
+        Ok(answers) => write(&rt, answers.as_slice()),
+        Err(RunError::OutOfMemory) => {
+            let _ = eprintln!(rt; "books: not enough memory");
+            Err(Failed)
+        }
+        Err(RunError::LimitsOutOfRange) => {
+            let _ = eprintln!(rt; "books: limits out of range");
+            Err(Failed)
+        }
+    }
 }

@@ -41,7 +41,7 @@ small_push : (ls : List Lot) (l : Lot) → AllSmall ls → Small l → AllSmall 
 small_push [] l h k = (k, tt)
 small_push (m ∷ ls) l h k = (h.0, small_push ls l h.1 k)
 
-pub small_take : (ls : List Lot) (i q : ℕ) → AllSmall ls → AllSmall (take ls i q).left
+small_take : (ls : List Lot) (i q : ℕ) → AllSmall ls → AllSmall (take ls i q).left
 unfolding take
 small_take [] i q h = tt
 small_take (l ∷ ls) i q h =

@@ -1,5 +1,7 @@
-//! The question that goes along a row: the lots of an item. It is exact on any memory.
+//! Questions that go along a row of their own: what lies on hand of an item, its lots, what stands on an account. Each is exact on any memory.
 
 mod listing;
+mod sums;
 
-pub use listing::{line, write_lots};
+pub use listing::write_lots;
+pub use sums::{sides_of, stock_of};

@@ -19,8 +19,7 @@ const HEAD: usize = 9;
 /// The bytes of a line.
 const LINE: usize = 32;
 
-/// A lot as a line of an answer.
-pub fn line(lot: Lot) -> LotLine
+fn line(lot: Lot) -> LotLine
     ensures { lot_told result ≡ lot_of lot }
 {
     LotLine {

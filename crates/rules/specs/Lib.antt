@@ -1,7 +1,6 @@
 pub mod Outcome
 pub mod Checks
 pub mod Totals
-pub mod Entering
-pub mod Placing
+pub mod Buying
 pub mod Receiving
 pub mod Asking

@@ -1,6 +1,7 @@
 //! Questions: what lies on hand, what stands on an account, how far an order is.
 
 ghost use Rattle.std.specs.Prelude.{◌≡◌};
+ghost use Rattle.records.specs.State.{state};
 ghost use Rattle.rules.specs.Asking.{stock_told, account_told, order_told};
 ghost use Rattle.rules.specs.Outcome.{paired};
 
@@ -10,25 +11,35 @@ use layout::Limits;
 use wire::Refusal;
 
 /// Pieces and cost of an item.
-pub fn stock_of(wide: &[u64], limits: Limits, item: u64) -> Result<(u64, u64), Refused>
-    ensures { paired result ≡ stock_told limits item wide.now }
+pub fn stock_of(
+    wide: &[u64],
+    narrow: &[u32],
+    limits: Limits,
+    item: u64,
+) -> Result<(u64, u64), Refused>
+    ensures { paired result ≡ stock_told limits item (state wide.now narrow.now) }
 {
     let Some(item) = known_item(limits, item) else {
         return Err(first(Refusal::BadField));
     };
-    let stock = memory::stock_of(wide, item);
+    let stock = questions::stock_of(wide, narrow, limits, item);
     Ok((stock.pieces, stock.worth))
 }
 
 /// Both sides of an account.
-pub fn account(wide: &[u64], account: u64) -> Result<(u64, u64), Refused>
-    ensures { paired result ≡ account_told account wide.now }
+pub fn account(
+    wide: &[u64],
+    narrow: &[u32],
+    limits: Limits,
+    account: u64,
+) -> Result<(u64, u64), Refused>
+    ensures { paired result ≡ account_told limits account (state wide.now narrow.now) }
 {
     let Some(account) = known_account(account) else {
         return Err(first(Refusal::BadField));
     };
-    let balance = memory::balance_of(wide, account);
-    Ok((balance.left, balance.right))
+    let sides = questions::sides_of(wide, narrow, limits, account);
+    Ok((sides.left, sides.right))
 }
 
 /// Pieces moved and billed of an order.

@@ -2,15 +2,14 @@
 //! A call that is refused leaves every word as it was.
 
 mod asking;
+mod buying;
 mod checks;
-mod entering;
-mod placing;
 mod receiving;
 mod refused;
 mod totals;
 
 pub use asking::{account, order, stock_of};
+pub use buying::buys;
 pub use checks::known_item;
-pub use placing::{buys, sells};
 pub use receiving::comes;
 pub use refused::Refused;

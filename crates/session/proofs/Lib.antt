@@ -3,10 +3,9 @@ pub mod Saying
 pub mod Doing
 pub mod Steps
 pub mod Turning
-pub mod Counting
-pub mod Entering
-pub mod Placing
+pub mod Buying
 pub mod Receiving
+pub mod Counting
 pub mod Asking
 pub mod Keeping
 pub mod Called

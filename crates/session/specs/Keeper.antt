@@ -2,8 +2,7 @@
 use Rattle.std.specs.Prelude.{◌≡◌, ℕ, List, ◌++◌, take, drop, replicate}
 use Rattle.firm.specs.Firm.{Firm}
 use Rattle.firm.specs.Calls.{Limits}
-use Rattle.firm.specs.Promise.{Memory, Keeper}
-use Rattle.session.specs.Stage.{in_stage}
+use Rattle.firm.specs.Promise.{Memory, Keeper, thin}
 use Rattle.firm.specs.Statements.{Reached}
 use Rattle.layout.specs.Layout.{wide_need, narrow_need}
 use Rattle.layout.specs.declared.limits.Limits as memory
@@ -38,11 +37,11 @@ pub record Standing (l : Limits) (m : Memory) (f : Firm) : Type 0 where
   pub words : m ≡ memory_of slices
   pub means : Means (limits_of l) slices f
   pub reached : Reached l f
-  pub cans : l.calls_can ≡ in_stage
+  pub cans : l.calls_can ≡ thin
 
 -- the same limits for this stage: the keeper does not look at which calls they name
 abbrev pub for_stage : Limits → Limits
-for_stage l = record { calls_can = in_stage; items = l.items; orders = l.orders; lots = l.lots; parts = l.parts; entries = l.entries }
+for_stage l = record { calls_can = thin; items = l.items; orders = l.orders; lots = l.lots; parts = l.parts; entries = l.entries }
 
 -- the words stand for some firm
 abbrev pub Sound : Limits → Memory → Type 0

@@ -1,4 +1,3 @@
-pub mod Stage
 pub mod Boundary
 pub mod Opening
 pub mod Calling

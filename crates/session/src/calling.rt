@@ -89,14 +89,6 @@ fn say_unreadable(place: usize, out: &mut [u8]) -> usize
     say_refused(refused, out)
 }
 
-// What a call is answered that the stage does not do.
-fn say_not_done(out: &mut [u8]) -> usize
-    requires { 17 ≤ length out.old }
-    ensures { Said (refused 2 0) result out.old out.new }
-{
-    say_refused(first(Refusal::BadField), out)
-}
-
 // Does a call, or turns it away, and writes its answer.
 fn answer(wide: &mut [u64], narrow: &mut [u32], limits: Limits, call: Call, out: &mut [u8]) -> usize
     requires { answer_need limits ≤ length out.old }
@@ -107,25 +99,23 @@ fn answer(wide: &mut [u64], narrow: &mut [u32], limits: Limits, call: Call, out:
         Call::Buys(item, pieces, price) => {
             say_number(rules::buys(wide, narrow, limits, item, pieces, price), out)
         }
-        Call::Sells(item, pieces, price) => {
-            say_number(rules::sells(wide, narrow, limits, item, pieces, price), out)
-        }
         Call::Comes(order, pieces) => {
             say_number(rules::comes(wide, narrow, limits, order, pieces), out)
         }
-        Call::StockOf(item) => say_two(rules::stock_of(wide, limits, item), out),
-        Call::Account(account) => say_two(rules::account(wide, account), out),
+        Call::StockOf(item) => say_two(rules::stock_of(wide, narrow, limits, item), out),
+        Call::Account(account) => say_two(rules::account(wide, narrow, limits, account), out),
         Call::Order(order) => say_two(rules::order(narrow, limits, order), out),
         Call::LotsOf(item) => say_lots(wide, narrow, limits, item, out),
         Call::MadeOf(_, parts) => say_refused(first(recipe_refusal(parts)), out),
-        Call::Goes(_, _) => say_not_done(out),
-        Call::BilledBy(_, _, _) => say_not_done(out),
-        Call::Bills(_, _) => say_not_done(out),
-        Call::PaysOut(_) => say_not_done(out),
-        Call::PaysIn(_) => say_not_done(out),
-        Call::Makes(_, _) => say_not_done(out),
-        Call::Counted(_, _) => say_not_done(out),
-        Call::EntriesFrom(_, _) => say_not_done(out),
+        Call::Sells(_, _, _)
+        | Call::Goes(_, _)
+        | Call::BilledBy(_, _, _)
+        | Call::Bills(_, _)
+        | Call::PaysOut(_)
+        | Call::PaysIn(_)
+        | Call::Makes(_, _)
+        | Call::Counted(_, _)
+        | Call::EntriesFrom(_, _) => say_refused(first(Refusal::BadField), out),
     }
 }
 

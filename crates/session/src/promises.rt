@@ -1,7 +1,6 @@
 //! The promises of the books, for every list of calls. The keeper is what the contracts of `open` and `call` say of memory.
 
-ghost use Rattle.firm.specs.Promise.{Right, RefusalKeeps, EnoughMemory};
-ghost use Rattle.session.specs.Stage.{in_stage};
+ghost use Rattle.firm.specs.Promise.{Right, RefusalKeeps, EnoughMemory, thin};
 ghost use Rattle.session.specs.Keeper.{keeper as booksKeeper, Standing, Sound};
 
 use firm::Keeps;
@@ -10,7 +9,7 @@ use firm::Keeps;
 pub struct Stage;
 
 impl Keeps for Stage {
-    ghost stage = { λ _. in_stage };
+    ghost stage = { λ _. thin };
 
     ghost keeper = { λ _. booksKeeper };
 
@@ -21,14 +20,14 @@ impl Keeps for Stage {
 
 /// For every list of calls the answers are those of the books.
 pub fn answers_are_right() -> u8
-    ensures { Right in_stage booksKeeper }
+    ensures { Right thin booksKeeper }
 {
     firm::right_by_steps(&Stage)
 }
 
 /// A call that is turned away leaves memory as it was, word for word.
 pub fn refusals_keep() -> u8
-    ensures { RefusalKeeps in_stage booksKeeper }
+    ensures { RefusalKeeps thin booksKeeper }
 {
     firm::refusal_keeps_by_steps(&Stage)
 }

@@ -4,10 +4,8 @@ pub mod Beside
 pub mod Tables
 pub mod LotSteps
 pub mod LotLaws
-pub mod OldestLot
 pub mod OrderLaws
 pub mod EntryLaws
 pub mod RecipeLaws
 pub mod TotalLaws
-pub mod SumLaws
 pub mod Opening

@@ -3,4 +3,3 @@ mod Carried
 mod Sent
 mod Lined
 mod Going
-mod Counting

@@ -16,13 +16,12 @@ use Rattle.wire.specs.Answers.{bytes_of_answer, carries, answer_of}
 use Rattle.wire.specs.Calls.{Sendable, bytes_of_call, call_of}
 use Rattle.wire.proofs.AnswerLaws.{answer_comes_back}
 use Rattle.wire.proofs.CallLaws.{comes_back}
-use Rattle.answer_lines.specs.Showings.{shown_if, showing_of}
+use Rattle.answer_lines.specs.Showings.{shown_if}
 use Rattle.answer_lines.specs.Shown.{shown, shown_line}
 use Rattle.call_lines.specs.Lines.{call_in_line}
 use Rattle.text.specs.Lines.{bare, quiet, heard}
 use Rattle.text.specs.Run.{calls_in, printed}
-use Rattle.text.specs.Standing.{Standing, Log, Told, Printed, CallDone, CallsDone}
-use Rattle.text.specs.Tallies.{noted_as}
+use Rattle.text.specs.Standing.{Standing, GoneOn, CallDone, CallsDone}
 use Rattle.text.proofs.Carried.{carried}
 
 -- what is written over is no longer than what there is then
@@ -51,62 +50,56 @@ module _ (row old bytes : List ℕ) (s t : State) (r : Option ℕ) (is : called_
         (carried (limits_of l) s h.means.sized h.good c send.1)
 
   -- nothing, or more than there is: not on such memory
-  pub none_came : (before : Log) → r ≡ None → CallDone row s t (length old) before before
-  none_came before none l f c h send e = let z : ◌≡◌ {A = ℕ} 0 1 = cc (means l f c h send e).came in absurd (omega arith)
+  pub none_came : (out : List ℕ) → r ≡ None → CallDone row s t (length old) out out
+  none_came out none l f c h send e = let z : ◌≡◌ {A = ℕ} 0 1 = cc (means l f c h send e).came in absurd (omega arith)
 
-  pub long_came : (n : ℕ) (before : Log) → r ≡ Some n → length bytes < n → CallDone row s t (length old) before before
-  long_came n before some more l f c h send e =
+  pub long_came : (n : ℕ) (out : List ℕ) → r ≡ Some n → length bytes < n → CallDone row s t (length old) out out
+  long_came n out some more l f c h send e =
       let a = means l f c h send e in
       let came : n ≡ length (bytes_of_answer (answer l f c)) = cc a.came in
       absurd (omega (arith, over_long (bytes_of_answer (answer l f c)) old, ap length a.bytes))
 
-  pub some_came : (n m : ℕ) (before end : Log) → r ≡ Some n → m ≡ n → end.text ≡ before.text ++ shown_if (answer_of (take m bytes)) →
-      end.tally ≡ noted_as (showing_of (answer_of (take m bytes))) before.tally → CallDone row s t (length old) before end
-  some_came n m before end some same wrote counted l f c h send e =
+  pub some_came : (n m : ℕ) (out end : List ℕ) → r ≡ Some n → m ≡ n → end ≡ out ++ shown_if (answer_of (take m bytes)) → CallDone row s t (length old) out end
+  some_came n m out end some same wrote l f c h send e =
       let a = means l f c h send e in
       let came : length (bytes_of_answer (answer l f c)) ≡ m = cc a.came in
-      let read : answer_of (take m bytes) ≡ Some (answer l f c) =
-      ap (λ (bs : List ℕ). answer_of bs) (ap (take m) a.bytes ∙ take_over (bytes_of_answer (answer l f c)) old m came) ∙ answer_comes_back (answer l f c) (carries_it l f c h send e) in (
-        stands l f c h send e,
-        record {
-          text = wrote ∙ ap (λ (o : Option Answer). before.text ++ shown_if o) read;
-          tally = counted ∙ ap (λ (o : Option Answer). noted_as (showing_of o) before.tally) read;
-        },
-      )
+      record {
+        standing = stands l f c h send e;
+        text =
+            wrote
+            ∙ ap (λ (bs : List ℕ). out ++ shown_if (answer_of bs)) (ap (take m) a.bytes ∙ take_over (bytes_of_answer (answer l f c)) old m came)
+            ∙ ap (λ (o : Option Answer). out ++ shown_if o) (answer_comes_back (answer l f c) (carries_it l f c h send e));
+      }
 
 -- the line feed behind an answer
-ended : (before mid end : Log) (a : Answer) → Told a before mid → end.text ≡ mid.text ++ (10 ∷ []) → end.tally ≡ mid.tally → Printed (a ∷ []) before end
-ended before mid end a e f g =
-    record {
-      text =
-          f ∙ ap (λ (x : List ℕ). x ++ (10 ∷ [])) e.text ∙ append_assoc before.text (shown a) (10 ∷ []) ∙ ap (λ (x : List ℕ). before.text ++ x) (sym (append-nil (shown_line a)));
-      tally = g ∙ e.tally;
-    }
+ended : (out mid end : List ℕ) (a : Answer) → mid ≡ out ++ shown a → end ≡ mid ++ (10 ∷ []) → end ≡ out ++ printed (a ∷ [])
+ended out mid end a e f =
+    f ∙ ap (λ (x : List ℕ). x ++ (10 ∷ [])) e ∙ append_assoc out (shown a) (10 ∷ []) ∙ ap (λ (x : List ℕ). out ++ x) (sym (append-nil (shown_line a)))
 
-pub call_line : (line row : List ℕ) (s t : State) (room : ℕ) (before mid end : Log) → CallDone row s t room before mid → row ≡ bytes_of_call (call_in_line line) → Sendable (call_in_line line) →
-    end.text ≡ mid.text ++ (10 ∷ []) → end.tally ≡ mid.tally → CallsDone (call_in_line line ∷ []) s t room before end
+pub call_line : (line row : List ℕ) (s t : State) (room : ℕ) (out mid end : List ℕ) → CallDone row s t room out mid → row ≡ bytes_of_call (call_in_line line) → Sendable (call_in_line line) →
+    end ≡ mid ++ (10 ∷ []) → CallsDone (call_in_line line ∷ []) s t room out end
 unfolding ran answers
-call_line line row s t room before mid end d e send f k l g h =
+call_line line row s t room out mid end d e send f l g h =
     let one = d l g (call_in_line line) h send e in
-    (one.0, ended before mid end (answer l g (call_in_line line)) one.1 f k)
+    record { standing = one.standing; text = ended out mid end (answer l g (call_in_line line)) one.text f }
 
-pub misfit_line : (line : List ℕ) (s : State) (room n : ℕ) (before mid end : Log) → call_in_line line ≡ garbled n → Told (refused 1 n) before mid → end.text ≡ mid.text ++ (10 ∷ []) →
-    end.tally ≡ mid.tally → CallsDone (call_in_line line ∷ []) s s room before end
+pub misfit_line : (line : List ℕ) (s : State) (room n : ℕ) (out mid end : List ℕ) → call_in_line line ≡ garbled n → mid ≡ out ++ shown (refused 1 n) → end ≡ mid ++ (10 ∷ []) →
+    CallsDone (call_in_line line ∷ []) s s room out end
 unfolding ran answers
-misfit_line line s room n before mid end is e f k l g h =
+misfit_line line s room n out mid end is e f l g h =
     let d = garbled_done l s g h.good h.cans h.reached h.means n in
-    subst (λ (c : Call). Standing l (after l g c) s room × Printed (answer l g c ∷ []) before end) (sym is) (
-      record { good = h.good; cans = h.cans; reached = reached_after l g (garbled n) h.reached; means = d.means; enough = h.enough },
-      ended before mid end (answer l g (garbled n)) (subst (λ (a : Answer). Told a before mid) d.says e) f k,
-    )
+    subst (λ (c : Call). GoneOn l (after l g c) s room out (printed (answer l g c ∷ [])) end) (sym is) (record {
+      standing = record { good = h.good; cans = h.cans; reached = reached_after l g (garbled n) h.reached; means = d.means; enough = h.enough };
+      text = ended out mid end (answer l g (garbled n)) (e ∙ ap (λ (a : Answer). out ++ shown a) d.says) f;
+    })
 
 -- a line that is blank or a remark, and one that is neither
-pub quiet_line : (line : List ℕ) (s : State) (room : ℕ) (before : Log) → quiet (bare line) ≡ true → CallsDone (calls_in (heard line)) s s room before before
+pub quiet_line : (line : List ℕ) (s : State) (room : ℕ) (out : List ℕ) → quiet (bare line) ≡ true → CallsDone (calls_in (heard line)) s s room out out
 unfolding ran answers
-quiet_line line s room before e =
-    subst (λ (ls : List (List ℕ)). CallsDone (calls_in ls) s s room before before) (sym (cond-true (quiet (bare line)) [] (bare line ∷ []) e))
-    (λ l f h. (h, record { text = sym (append-nil before.text); tally = refl }))
+quiet_line line s room out e =
+    subst (λ (ls : List (List ℕ)). CallsDone (calls_in ls) s s room out out) (sym (cond-true (quiet (bare line)) [] (bare line ∷ []) e))
+    (λ l f h. record { standing = h; text = sym (append-nil out) })
 
-pub heard_line : (line : List ℕ) (s t : State) (room : ℕ) (before end : Log) → quiet (bare line) ≡ false → CallsDone (call_in_line (bare line) ∷ []) s t room before end → CallsDone (calls_in (heard line)) s t room before end
-heard_line line s t room before end e h =
-    subst (λ (ls : List (List ℕ)). CallsDone (calls_in ls) s t room before end) (sym (cond-false (quiet (bare line)) [] (bare line ∷ []) e)) h
+pub heard_line : (line : List ℕ) (s t : State) (room : ℕ) (out end : List ℕ) → quiet (bare line) ≡ false → CallsDone (call_in_line (bare line) ∷ []) s t room out end → CallsDone (calls_in (heard line)) s t room out end
+heard_line line s t room out end e h =
+    subst (λ (ls : List (List ℕ)). CallsDone (calls_in ls) s t room out end) (sym (cond-false (quiet (bare line)) [] (bare line ∷ []) e)) h

@@ -3,28 +3,24 @@
 ghost use Rattle.std.specs.Prelude.{◌≡◌, [], ◌∷◌, ◌++◌, length, OnOk};
 ghost use Rattle.firm.specs.Calls.{refused};
 ghost use Rattle.records.specs.State.{state};
+ghost use Rattle.answer_lines.specs.Shown.{shown};
 ghost use Rattle.call_lines.specs.Lines.{call_in_line};
 ghost use Rattle.text.specs.Lines.{heard};
 ghost use Rattle.text.specs.Run.{calls_in};
-ghost use Rattle.text.specs.Standing.{log, Told, CallDone, CallsDone};
+ghost use Rattle.text.specs.Standing.{CallDone, CallsDone};
 
 use crate::lines::{bare, is_quiet};
-use crate::tally::Tally;
-use answer_lines::{Showing, show_answer};
+use answer_lines::show_answer;
 use call_lines::{Reading, read_line};
 use std::alloc::AllocError;
 use words::put_number;
 
-/// The refusal of a line that is no call.
-const UNREADABLE: u64 = 1;
-
 // Appends what a line is answered that is no call: where it ceases to be one.
-fn put_misfit(place: usize, tally: &mut Tally, out: &mut Vec<u8>) -> Result<(), AllocError>
-    ensures { OnOk result (Told (refused 1 place) (log out.old.items tally.old) (log out.new.items tally.new)) }
+fn put_misfit(out: &mut Vec<u8>, place: usize) -> Result<(), AllocError>
+    ensures { OnOk result (out.new.items ≡ out.old.items ++ shown (refused 1 place)) }
 {
     out.extend_from_slice(b"refused 1 at ")?;
     put_number(out, place as u64)?;
-    tally.note(Showing::Refused(UNREADABLE));
     Ok(())
 }
 
@@ -34,17 +30,15 @@ fn answer_call(
     narrow: &mut [u32],
     call: &[u8],
     answer: &mut [u8],
-    tally: &mut Tally,
     out: &mut Vec<u8>,
 ) -> Result<(), AllocError>
-    ensures { OnOk result (CallDone call.now (state wide.old narrow.old) (state wide.new narrow.new) (length answer.old) (log out.old.items tally.old) (log out.new.items tally.new)) }
+    ensures { OnOk result (CallDone call.now (state wide.old narrow.old) (state wide.new narrow.new) (length answer.old) out.old.items out.new.items) }
 {
     let Some(count) = session::call(wide, narrow, call, answer) else {
         return Ok(());
     };
     if count <= answer.len() {
-        let showing = show_answer(out, &answer[0..count])?;
-        tally.note(showing);
+        show_answer(out, &answer[0..count])?;
     }
     Ok(())
 }
@@ -56,36 +50,33 @@ fn answer_line(
     line: &[u8],
     call: &mut Vec<u8>,
     answer: &mut [u8],
-    tally: &mut Tally,
     out: &mut Vec<u8>,
 ) -> Result<(), AllocError>
-    ensures { OnOk result (CallsDone (call_in_line line.now ∷ []) (state wide.old narrow.old) (state wide.new narrow.new) (length answer.old) (log out.old.items tally.old) (log out.new.items tally.new)) }
+    ensures { OnOk result (CallsDone (call_in_line line.now ∷ []) (state wide.old narrow.old) (state wide.new narrow.new) (length answer.old) out.old.items out.new.items) }
 {
     match read_line(line, call)? {
-        Reading::Call => answer_call(wide, narrow, call.as_slice(), answer, tally, out)?,
-        Reading::Misfit(place) => put_misfit(place, tally, out)?,
+        Reading::Call => answer_call(wide, narrow, call.as_slice(), answer, out)?,
+        Reading::Misfit(place) => put_misfit(out, place)?,
     }
     out.push(b'\n')?;
     Ok(())
 }
 
-/// Appends the answer to a line and a line feed, and counts it, unless the line is blank or a remark. The bytes of `call` are of no account, before and
-/// afterwards.
+/// Appends the answer to a line and a line feed, unless the line is blank or a remark. The bytes of `call` are of no account, before and afterwards.
 pub fn answer_if_heard(
     wide: &mut [u64],
     narrow: &mut [u32],
     line: &[u8],
     call: &mut Vec<u8>,
     answer: &mut [u8],
-    tally: &mut Tally,
     out: &mut Vec<u8>,
 ) -> Result<(), AllocError>
-    ensures { OnOk result (CallsDone (calls_in (heard line.now)) (state wide.old narrow.old) (state wide.new narrow.new) (length answer.old) (log out.old.items tally.old) (log out.new.items tally.new)) }
+    ensures { OnOk result (CallsDone (calls_in (heard line.now)) (state wide.old narrow.old) (state wide.new narrow.new) (length answer.old) out.old.items out.new.items) }
 {
     let line = bare(line);
     if is_quiet(line) {
         return Ok(());
     }
-    answer_line(wide, narrow, line, call, answer, tally, out)?;
+    answer_line(wide, narrow, line, call, answer, out)?;
     Ok(())
 }

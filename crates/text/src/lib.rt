@@ -1,13 +1,9 @@
 //! Calls and answers as lines of text: a text of calls in, the answers out.
 
 mod answering;
-mod books;
-mod laws;
+mod error;
 mod lines;
 mod running;
-mod tally;
 
-pub use books::Books;
-pub use laws::{line_by_line_stands, tally_counts_stands};
+pub use error::RunError;
 pub use running::run;
-pub use tally::{REFUSALS, Tally};

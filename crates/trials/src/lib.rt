@@ -149,34 +149,6 @@ mod tests {
     }
 
     #[test]
-    fn counts_and_posts(rt: HostRuntime) -> Result<(), Fail> {
-        let mut wide = [1u64; 100];
-        let mut narrow = [1u32; 200];
-        let limits = same(3);
-        assert_eq!(rt; number_of(memory::open(&mut wide, &mut narrow, limits)), 0);
-        let Ok(cell) = store::add_lot(&mut wide, &mut narrow, limits, lot(2, 5)) else {
-            return Err(Fail::new("no cell"));
-        };
-        store::count_in(&mut wide, &narrow, limits, cell);
-        store::count_in(&mut wide, &narrow, limits, cell);
-        assert_eq!(rt; memory::stock_of(&wide, 2).pieces, 10);
-        assert_eq!(rt; memory::stock_of(&wide, 2).worth, 14);
-        assert_eq!(rt; memory::stock_of(&wide, 1).pieces, 0);
-        let entry = Entry {
-            left: 0,
-            right: 4,
-            amount: 900,
-            document: 1,
-        };
-        store::post(&mut wide, entry);
-        store::post(&mut wide, Entry { left: 4, ..entry });
-        assert_eq!(rt; memory::balance_of(&wide, 0).left, 900);
-        assert_eq!(rt; memory::balance_of(&wide, 4).left, 900);
-        assert_eq!(rt; memory::balance_of(&wide, 4).right, 1800);
-        Ok(())
-    }
-
-    #[test]
     fn orders_entries_and_recipes(rt: HostRuntime) -> Result<(), Fail> {
         let mut wide = [1u64; 100];
         let mut narrow = [1u32; 200];

@@ -6,9 +6,9 @@ use Rattle.answer_lines.specs.Showings.{shown_if, showing_of}
 use Rattle.answer_lines.proofs.QuadSteps.{lots_shown, entries_shown}
 use Rattle.answer_lines.proofs.show.put_answer.Goals as goal
 
-pub returns-in-Refused : goal.returns-in-Refused
+pub returns-in-ok-put-refusal : goal.returns-in-ok-put-refusal
 unfolding shown
-returns-in-Refused c = search rules
+returns-in-ok-put-refusal c = search rules
 
 pub returns-in-ok-put-number : goal.returns-in-ok-put-number
 unfolding shown

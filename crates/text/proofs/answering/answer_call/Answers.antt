@@ -1,22 +1,19 @@
-use Rattle.std.proofs.Common.{◌-◌, vec_items, ap, ◌∙◌, arith}
+use Rattle.std.proofs.Common.{◌-◌, vec_items, arith}
 use Rattle.records.specs.State.{state}
-use Rattle.text.specs.Standing.{log}
-use Rattle.text.specs.Tallies.{noted_as}
 use Rattle.text.proofs.Lined.{none_came, long_came, some_came}
 use Rattle.text.proofs.answering.answer_call.Goals as goal
 
 pub returns-in-default : goal.returns-in-default
 returns-in-default c =
     none_came c.args.call.now c.args.answer.now c.call.new.answer-bytes (state c.args.wide.now c.args.narrow.now) (state c.call.new.wide c.call.new.narrow) c.call.result c.call.ensures.does
-    (log (vec_items c.args.out.now) c.args.tally.now) c.in-default.is
+    (vec_items c.args.out.now) c.in-default.is
 
-pub returns-in-ok-showing : goal.returns-in-ok-showing
-returns-in-ok-showing c =
+pub returns-in-ok-show-answer : goal.returns-in-ok-show-answer
+returns-in-ok-show-answer c =
     some_came c.args.call.now c.args.answer.now c.call.new.answer-bytes (state c.args.wide.now c.args.narrow.now) (state c.call.new.wide c.call.new.narrow) c.call.result c.call.ensures.does
-    c.in-Some.count (c.in-Some.count - 0) (log (vec_items c.args.out.now) c.args.tally.now) (log (vec_items c.show-answer.new.out) c.note.new.self) c.in-Some.is (omega arith) c.in-ok-showing.ensures.text
-    (c.note.ensures ∙ ap (λ x. noted_as x c.args.tally.now) c.in-ok-showing.ensures.showing)
+    c.in-Some.count (c.in-Some.count - 0) (vec_items c.args.out.now) (vec_items c.show-answer.new.out) c.in-Some.is (omega arith) c.in-ok-show-answer.ensures.text
 
 pub returns-else-count-answer : goal.returns-else-count-answer
 returns-else-count-answer c =
     long_came c.args.call.now c.args.answer.now c.call.new.answer-bytes (state c.args.wide.now c.args.narrow.now) (state c.call.new.wide c.call.new.narrow) c.call.result c.call.ensures.does
-    c.in-Some.count (log (vec_items c.args.out.now) c.args.tally.now) c.in-Some.is c.if-count-answer.false
+    c.in-Some.count (vec_items c.args.out.now) c.in-Some.is c.if-count-answer.false

@@ -1,7 +1,7 @@
-use Rattle.std.proofs.Common.{◌≡◌, ◌^◌, ◌<◌, [], ◌∷◌, ◌++◌, length, vec_items, sym, refl, ap, ◌∙◌, subst, ap₂, rules}
+use Rattle.std.proofs.Common.{◌≡◌, ◌^◌, ◌<◌, [], ◌∷◌, ◌++◌, length, vec_items, sym, refl, ap, ◌∙◌, subst, ap₂, arith}
 use Rattle.records.specs.State.{State, state}
 use Rattle.call_lines.specs.Lines.{call_or_place, call_in_line}
-use Rattle.text.specs.Standing.{log, CallsDone}
+use Rattle.text.specs.Standing.{CallsDone}
 use Rattle.text.proofs.Lined.{call_line, misfit_line}
 use Rattle.text.proofs.Sent.{sendable, misfit}
 use Rattle.text.proofs.answering.answer_line.Goals as goal
@@ -11,19 +11,19 @@ pub returns : goal.returns
 returns c =
     elim c.match-branch-2.branch [
       | in-Call+in-ok-answer-call w ↦
-          let small : length c.args.line.now < 2 ^ 64 = search rules in
-          subst (λ (t : State). CallsDone (call_in_line c.args.line.now ∷ []) (state c.args.wide.now c.args.narrow.now) t (length c.args.answer.now) (log (vec_items c.args.out.now) c.args.tally.now) (log (vec_items c.push.new.self) c.match-branch-2.tally))
+          let small : length c.args.line.now < 2 ^ 64 = omega arith in
+          subst (λ (t : State). CallsDone (call_in_line c.args.line.now ∷ []) (state c.args.wide.now c.args.narrow.now) t (length c.args.answer.now) (vec_items c.args.out.now) (vec_items c.push.new.self))
           (sym (ap₂ state w.wide-is w.narrow-is))
           (call_line c.args.line.now w.as-slice.result.now (state c.args.wide.now c.args.narrow.now) (state w.answer-call.new.wide w.answer-call.new.narrow) (length c.args.answer.now)
-          (log (vec_items c.args.out.now) c.args.tally.now) (log (vec_items w.answer-call.new.out) w.answer-call.new.tally) (log (vec_items c.push.new.self) c.match-branch-2.tally) w.in-ok-answer-call.ensures
+          (vec_items c.args.out.now) (vec_items w.answer-call.new.out) (vec_items c.push.new.self) w.in-ok-answer-call.ensures
           (w.as-slice.ensures.value ∙ c.in-ok-read-line.ensures.bytes)
           (sendable c.args.line.now (call_or_place c.args.line.now) refl small (sym w.in-Call.is ∙ c.in-ok-read-line.ensures.reading))
-          (c.in-ok-push.ensures.items ∙ ap (λ o. vec_items o ++ (10 ∷ [])) w.out-is) w.tally-is)
+          (c.in-ok-push.ensures.items ∙ ap (λ o. vec_items o ++ (10 ∷ [])) w.out-is))
       | in-Misfit+in-ok-put-misfit w ↦
-          subst (λ (t : State). CallsDone (call_in_line c.args.line.now ∷ []) (state c.args.wide.now c.args.narrow.now) t (length c.args.answer.now) (log (vec_items c.args.out.now) c.args.tally.now) (log (vec_items c.push.new.self) c.match-branch-2.tally))
+          subst (λ (t : State). CallsDone (call_in_line c.args.line.now ∷ []) (state c.args.wide.now c.args.narrow.now) t (length c.args.answer.now) (vec_items c.args.out.now) (vec_items c.push.new.self))
           (sym (ap₂ state w.wide-is w.narrow-is))
           (misfit_line c.args.line.now (state c.args.wide.now c.args.narrow.now) (length c.args.answer.now) w.in-Misfit.place
-          (log (vec_items c.args.out.now) c.args.tally.now) (log (vec_items w.put-misfit.new.out) w.put-misfit.new.tally) (log (vec_items c.push.new.self) c.match-branch-2.tally)
+          (vec_items c.args.out.now) (vec_items w.put-misfit.new.out) (vec_items c.push.new.self)
           (misfit c.args.line.now (call_or_place c.args.line.now) w.in-Misfit.place refl (sym w.in-Misfit.is ∙ c.in-ok-read-line.ensures.reading))
-          w.in-ok-put-misfit.ensures (c.in-ok-push.ensures.items ∙ ap (λ o. vec_items o ++ (10 ∷ [])) w.out-is) w.tally-is)
+          w.in-ok-put-misfit.ensures (c.in-ok-push.ensures.items ∙ ap (λ o. vec_items o ++ (10 ∷ [])) w.out-is))
     ]

@@ -1,0 +1,85 @@
+//! The options that widen the books.
+
+ghost use Rattle.std.specs.Prelude.{◌≡◌};
+ghost use Rattle.books.specs.Options.{most, with_limit};
+
+use layout::Limits;
+
+/// Of what an option says how many there can be.
+#[derive(Clone, Copy)]
+pub enum Limit {
+    Items,
+    Orders,
+    Lots,
+    Parts,
+    Entries,
+}
+
+/// The limits where no option says otherwise.
+pub fn usual() -> Limits {
+    Limits {
+        items: 32,
+        orders: 64,
+        lots: 128,
+        parts: 32,
+        entries: 256,
+    }
+}
+
+impl Limit {
+    /// The limit that an option names.
+    pub fn named(word: &str) -> Option<Limit> {
+        if word == "--items" {
+            Some(Limit::Items)
+        } else if word == "--orders" {
+            Some(Limit::Orders)
+        } else if word == "--lots" {
+            Some(Limit::Lots)
+        } else if word == "--parts" {
+            Some(Limit::Parts)
+        } else if word == "--entries" {
+            Some(Limit::Entries)
+        } else {
+            None
+        }
+    }
+
+    /// The option that names it.
+    pub fn option(self) -> &'static str {
+        match self {
+            Limit::Items => "--items",
+            Limit::Orders => "--orders",
+            Limit::Lots => "--lots",
+            Limit::Parts => "--parts",
+            Limit::Entries => "--entries",
+        }
+    }
+
+    /// The most that books can be opened with.
+    pub fn most(self) -> u32
+        ensures { result ≡ most self }
+    {
+        match self {
+            Limit::Items => layout::MOST_ITEMS,
+            Limit::Orders => layout::MOST_ORDERS,
+            Limit::Lots => layout::MOST_LOTS,
+            Limit::Parts => layout::MOST_PARTS,
+            Limit::Entries => layout::MOST_ENTRIES,
+        }
+    }
+
+    /// The limits with another number for this one.
+    pub fn put(self, limits: Limits, value: u32) -> Limits
+        ensures { result ≡ with_limit self value limits }
+    {
+        let mut limits = limits;
+        match self {
+            Limit::Items => limits.items = value,
+            Limit::Orders => limits.orders = value,
+            Limit::Lots => limits.lots = value,
+            Limit::Parts => limits.parts = value,
+            Limit::Entries => limits.entries = value,
+        }
+        limits
+    }
+}
