@@ -1,5 +1,7 @@
 //! `books [--items N] [--orders N] [--lots N] [--parts N] [--entries N] [FILE]`: answers the calls of a file, or of standard input, a line each.
 
+#![tactic(auto)]
+
 mod limit;
 mod request;
 

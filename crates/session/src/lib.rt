@@ -1,5 +1,7 @@
 //! The session: books opened and called on memory that the caller lends.
 
+#![tactic(auto)]
+
 mod boundary;
 mod calling;
 mod error;

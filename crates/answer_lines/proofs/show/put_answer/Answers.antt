@@ -6,30 +6,30 @@ use Rattle.answer_lines.specs.Showings.{shown_if, showing_of}
 use Rattle.answer_lines.proofs.QuadSteps.{lots_shown, entries_shown}
 use Rattle.answer_lines.proofs.show.put_answer.Goals as goal
 
-pub returns-in-ok-put-refusal : goal.returns-in-ok-put-refusal
+pub returns-in_ok-put_refusal : goal.returns-in_ok-put_refusal
 unfolding shown
-returns-in-ok-put-refusal c = search rules
+returns-in_ok-put_refusal c = search rules
 
-pub returns-in-ok-put-number : goal.returns-in-ok-put-number
+pub returns-in_ok-put_number : goal.returns-in_ok-put_number
 unfolding shown
-returns-in-ok-put-number c = search rules
+returns-in_ok-put_number c = search rules
 
-pub returns-in-ok-put-two : goal.returns-in-ok-put-two
+pub returns-in_ok-put_two : goal.returns-in_ok-put_two
 unfolding shown
-returns-in-ok-put-two c = search rules
+returns-in_ok-put_two c = search rules
 
 pub returns-in-Lots : goal.returns-in-Lots
 returns-in-Lots c =
     let p = lots_shown c.in-Lots.lines.now in
     record {
-      showing = c.in-ok-put-lines.ensures.showing ∙ p.0 ∙ ap (λ (a : Answer). showing_of (told a)) (sym c.in-Lots.is);
-      text = c.in-ok-put-lines.ensures.text ∙ ap (λ (s : List ℕ). vec_items c.args.out.now ++ s) (p.1 ∙ ap (λ (a : Answer). shown_if (told a)) (sym c.in-Lots.is));
+      showing = c.in_ok-put_lines.ensures.showing ∙ p.0 ∙ ap (λ (a : Answer). showing_of (told a)) (sym c.in-Lots.is);
+      text = c.in_ok-put_lines.ensures.text ∙ ap (λ (s : List ℕ). vec_items c.args.out.now ++ s) (p.1 ∙ ap (λ (a : Answer). shown_if (told a)) (sym c.in-Lots.is));
     }
 
 pub returns-in-Entries : goal.returns-in-Entries
 returns-in-Entries c =
     let p = entries_shown c.in-Entries.lines.now in
     record {
-      showing = c.in-ok-put-lines-2.ensures.showing ∙ p.0 ∙ ap (λ (a : Answer). showing_of (told a)) (sym c.in-Entries.is);
-      text = c.in-ok-put-lines-2.ensures.text ∙ ap (λ (s : List ℕ). vec_items c.args.out.now ++ s) (p.1 ∙ ap (λ (a : Answer). shown_if (told a)) (sym c.in-Entries.is));
+      showing = c.in_ok-put_lines-2.ensures.showing ∙ p.0 ∙ ap (λ (a : Answer). showing_of (told a)) (sym c.in-Entries.is);
+      text = c.in_ok-put_lines-2.ensures.text ∙ ap (λ (s : List ℕ). vec_items c.args.out.now ++ s) (p.1 ∙ ap (λ (a : Answer). shown_if (told a)) (sym c.in-Entries.is));
     }

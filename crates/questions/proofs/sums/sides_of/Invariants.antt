@@ -6,5 +6,5 @@ use Rattle.questions.proofs.sums.sides_of.Given as goal
 
 abbrev pub invariant-loop-turn : goal.invariant-loop-turn
 invariant-loop-turn l =
-    walked_from (sides_step l.limits (state l.wide l.narrow)) (l.rows.cells - l.-turn) l.rows l.narrow l.place l.balance
+    walked_from (sides_step l.limits (state l.wide l.narrow)) (l.rows.cells - l._turn) l.rows l.narrow l.place l.balance
     ≡ sides_of l.limits l.account (state l.wide l.narrow)

@@ -4,7 +4,7 @@ use Rattle.text.specs.Lines.{quiet}
 use Rattle.text.proofs.Lined.{quiet_line}
 use Rattle.text.proofs.answering.answer_if_heard.Goals as goal
 
-pub returns-then-is-quiet : goal.returns-then-is-quiet
-returns-then-is-quiet c =
+pub returns-then-is_quiet : goal.returns-then-is_quiet
+returns-then-is_quiet c =
     quiet_line c.args.line.now (state c.args.wide.now c.args.narrow.now) (length c.args.answer.now) (vec_items c.args.out.now)
-    (subst (λ s. quiet s ≡ true) c.bare-line.ensures (sym c.if-is-quiet.ensures))
+    (subst (λ s. quiet s ≡ true) c.bare-line.ensures (sym c.if-is_quiet.ensures))

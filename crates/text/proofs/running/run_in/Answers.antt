@@ -5,6 +5,6 @@ use Rattle.text.proofs.running.run_in.Goals as goal
 
 pub returns : goal.returns
 returns c =
-    whole c.args.limits c.args.text.now (state c.args.wide.now c.args.narrow.now) (state c.open.new.wide c.open.new.narrow) (state c.answer-text.new.wide c.answer-text.new.narrow) c.open.result
-    (length c.args.answer.now) (vec_items c.new-out.result) (vec_items c.answer-text.new.out) c.requires.good c.requires.wide c.requires.narrow c.requires.answer c.open.ensures c.new-out.ensures.items
-    c.in-ok-answer-text.ensures
+    whole c.args.limits c.args.text.now (state c.args.wide.now c.args.narrow.now) (state c.open.new.wide c.open.new.narrow) (state c.answer_text.new.wide c.answer_text.new.narrow) c.open.result
+    (length c.args.answer.now) (vec_items c.new-out.result) (vec_items c.answer_text.new.out) c.requires.good c.requires.wide c.requires.narrow c.requires.answer c.open.ensures c.new-out.ensures.items
+    c.in_ok-answer_text.ensures
