@@ -7,7 +7,7 @@ use Rattle.questions.proofs.sums.sides_of.Goals as goal
 
 pub loop-turn-init : goal.loop-turn-init
 unfolding sides_of
-loop-turn-init c = walk_begins (sides_step c.args.limits (state c.args.wide.now c.args.narrow.now)) c.entry_rows-rows.result c.args.narrow.now (entry_rows c.args.limits) c.args.account c.header_place.result _ c.entry_rows-rows.ensures c.header_place.ensures
+loop-turn-init c = walk_begins (sides_step c.args.limits (state c.args.wide.now c.args.narrow.now)) c.entry_rows-rows.result c.args.narrow.now (entry_rows c.args.limits) c.args.account c.header-place.result _ c.entry_rows-rows.ensures c.header-place.ensures
 
 pub returns-in_default : goal.returns-in_default
 returns-in_default c =
@@ -16,7 +16,7 @@ returns-in_default c =
 pub loop-turn-preserved : goal.loop-turn-preserved
 loop-turn-preserved c =
     walk_turns (sides_step c.args.limits (state c.args.wide.now c.args.narrow.now)) c.entry_rows-rows.result c.args.narrow.now c.entry_rows-rows.result.cells c.loop-turn._turn c.loop-turn.place c.in-Some.cell c.loop-turn.balance c.beside-balance.result
-    c.loop-turn-test.true c.in-Some.ensures (c.beside-balance.ensures ∙ ap (beside c.loop-turn.balance c.in-Some.cell) c.entry_record.ensures)
+    c.loop-turn-test.true c.in-Some.ensures (c.beside-balance.ensures ∙ ap (beside c.loop-turn.balance c.in-Some.cell) c.entry_at.ensures)
     ∙ c.loop-turn.invariant
 
 pub returns : goal.returns

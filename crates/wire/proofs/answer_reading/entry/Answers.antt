@@ -10,7 +10,7 @@ entry l r a d = record { on_left = l; on_right = r; amount = a; document = d }
 
 pub returns-in_err-left : goal.returns-in_err-left
 unfolding entry_in entries_in
-returns-in_err-left c = rw c.from-residual.ensures (line_is entry_in entry (λ bs. refl) c.args.lines.now c.args.k None c.in_err-left.ensures)
+returns-in_err-left c = rw c.from_residual.ensures (line_is entry_in entry (λ bs. refl) c.args.lines.now c.args.k None c.in_err-left.ensures)
 
 pub returns : goal.returns
 unfolding entry_in entries_in

@@ -10,7 +10,7 @@ lot i q c d = record { item = i; pieces = q; cost = c; from = d }
 
 pub returns-in_err-item : goal.returns-in_err-item
 unfolding lot_in lots_in
-returns-in_err-item c = rw c.from-residual.ensures (line_is lot_in lot (λ bs. refl) c.args.lines.now c.args.k None c.in_err-item.ensures)
+returns-in_err-item c = rw c.from_residual.ensures (line_is lot_in lot (λ bs. refl) c.args.lines.now c.args.k None c.in_err-item.ensures)
 
 pub returns : goal.returns
 unfolding lot_in lots_in
