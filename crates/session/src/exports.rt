@@ -61,12 +61,7 @@ pub fn books_open(wide: &mut [u64], narrow: &mut [u32], limits: &[u64]) -> i64
 }
 
 /// Does one call and writes its answer: the answer's length, or -(3 * 2^32), and nothing is done, where memory does not suffice.
-pub fn books_call(
-    wide: &mut [u64],
-    narrow: &mut [u32],
-    call: &[u8],
-    answer: &mut [u8],
-) -> i64
+pub fn books_call(wide: &mut [u64], narrow: &mut [u32], call: &[u8], answer: &mut [u8]) -> i64
     ensures memory { state wide.new narrow.new ≡ (called (call_of call.now) (state wide.old narrow.old) answer.old).left }
     ensures bytes { answer.new ≡ (called (call_of call.now) (state wide.old narrow.old) answer.old).bytes }
     ensures number { result ≡ call_number (called (call_of call.now) (state wide.old narrow.old) answer.old).came }
