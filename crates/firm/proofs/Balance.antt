@@ -1,8 +1,8 @@
 -- Statement 1: the books balance, and the stock account is what the lots cost. Assumes nothing.
-use Rattle.std.proofs.Common.{◌≡◌, ℕ, zero, suc, ◌+◌, ◌-◌, ◌*◌, ◌<◌, ◌≤◌, T, eqb, ltb, List, [], ◌∷◌, ◌++◌, sym, refl, ap, ◌∙◌, subst, inl, inr, append-nil, arith, lit<}
+use Rattle.std.proofs.Common.{◌≡◌, ℕ, zero, suc, ◌+◌, ◌-◌, ◌<◌, ◌≤◌, T, eqb, ltb, List, [], ◌++◌, sym, refl, ap, ◌∙◌, subst, inl, inr, append-nil, arith, lit<}
 use mathlib.Core.Path.{fun_ext}
 use Rattle.std.proofs.lemmas.Bool.{cases_eq}
-use Rattle.firm.specs.Stock.{pick, Lot, Part, Taken, take, take_all, on_hand, all_worth}
+use Rattle.firm.specs.Stock.{pick, Lot, on_hand, all_worth}
 use Rattle.firm.specs.Ledger.{Entry, entry, left_side, right_side}
 use Rattle.firm.specs.Firm.{Firm, recipe, the_order}
 use Rattle.firm.specs.Calls.{Call, buys, sells, comes, goes, billed_by, bills, pays_out, pays_in, made_of, makes, counted, stock_of, account, order, lots_of, entries_from, garbled}

@@ -1,11 +1,10 @@
 -- In books that are reached each order is of an item there is, and its numbers are small. Assumes nothing.
-use Rattle.std.proofs.Common.{◌≡◌, ℕ, zero, suc, ◌+◌, ◌<◌, ◌≤◌, true, ◌&&◌, ltb, leb, List, [], ◌∷◌, ◌++◌, length, get_or, set, arith}
+use Rattle.std.proofs.Common.{◌≡◌, ℕ, zero, suc, ◌<◌, true, ◌&&◌, ltb, leb, List, [], ◌∷◌, ◌++◌, length, get_or, set, arith}
 use Rattle.std.proofs.lemmas.Bool.{and_parts, ltb-true, leb-true}
 use Rattle.firm.specs.Firm.{Firm, Order, no_order, the_order, moved_by, billed_more}
 use Rattle.firm.specs.Calls.{Call, buys, sells, comes, goes, billed_by, bills, pays_out, pays_in, made_of, makes, counted, stock_of, account, order, lots_of, entries_from, garbled, Limits, call_number}
 use Rattle.firm.specs.Changes.{changed}
 use Rattle.firm.specs.Refusals.{some_pieces, good_fields, good_call}
-use Rattle.firm.specs.Statements.{Reached}
 use Rattle.firm.specs.Laws.{Known, OrdersKnown}
 use Rattle.firm.proofs.Cases.{counted_cases, reached_keeps}
 

@@ -1,6 +1,6 @@
 -- What calls are answered, one by one and for a whole list: THE MEANING of the books. Each answer goes through all orders, lots and entries.
 -- Definitions only: nothing is assumed.
-use Rattle.std.specs.Prelude.{ℕ, ◌*◌, List, [], ◌∷◌, length, ◌==◌}
+use Rattle.std.specs.Prelude.{◌*◌, List, [], ◌∷◌, length, ◌==◌}
 use Rattle.firm.specs.Stock.{pick, take, on_hand, worth, take_all, of_item}
 use Rattle.firm.specs.Ledger.{left_side, right_side, some_from}
 use Rattle.firm.specs.Firm.{Firm, recipe, the_order}

@@ -1,5 +1,5 @@
 -- What a call that is taken makes of the firm. Definitions only: nothing is assumed.
-use Rattle.std.specs.Prelude.{ℕ, suc, ◌+◌, ◌-◌, ◌*◌, true, false, List, [], ◌∷◌, ◌++◌, ◌==◌, nat_le, slice_set}
+use Rattle.std.specs.Prelude.{suc, ◌-◌, ◌*◌, true, false, List, [], ◌∷◌, ◌++◌, ◌==◌, nat_le, slice_set}
 use Rattle.firm.specs.Stock.{pick, Lot, Taken, take, on_hand, take_all}
 use Rattle.firm.specs.Ledger.{Entry, entry}
 use Rattle.firm.specs.Firm.{Order, Recipe, Firm, recipe, the_order, moved_by, billed_more}

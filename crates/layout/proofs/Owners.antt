@@ -1,7 +1,7 @@
 -- Whose the words of each area are.
-use Rattle.std.proofs.Common.{◌≡◌, ℕ, ◌+◌, ◌-◌, ◌*◌, ◌%◌, ◌<◌, ◌≤◌, cond, ltb, ◌≢◌, ap, arith}
+use Rattle.std.proofs.Common.{◌≡◌, ℕ, ◌+◌, ◌-◌, ◌*◌, ◌%◌, ◌<◌, ◌≤◌, ◌≢◌, ap, arith}
 use Rattle.std.proofs.lemmas.Bool.{lt-ltb, le-ltb}
-use Rattle.layout.specs.Layout.{accounts_at, items_at, recipe_at, orders_at, order_at, lots_at, lot_at, parts_at, entries_at, entry_links_at, balances_at, balance_at, stocks_at, stock_at, wide_lots_at, wide_entries_at}
+use Rattle.layout.specs.Layout.{items_at, recipe_at, orders_at, order_at, lots_at, lot_at, parts_at, entries_at, entry_links_at, stocks_at, wide_lots_at, wide_entries_at}
 use Rattle.layout.specs.Words.{Owner, limits, counters, totals, balances, stocks, orders, order_links, lots, lot_links, recipes, parts, entries, entry_links, item_owner, order_owner, lot_owner, owner, wide_owner}
 use Rattle.layout.specs.declared.limits.Limits.{Limits}
 

@@ -1,12 +1,12 @@
 -- The rows of lots, orders and entries lie apart, in the memory that is asked for, and in their own words; and what follows for steps that keep to their words.
-use Rattle.std.proofs.Common.{◌≡◌, ℕ, ◌+◌, ◌*◌, ◌<◌, ◌≤◌, ◌≢◌, List, length, get_or, sym, refl, ap, ◌∙◌, arith}
+use Rattle.std.proofs.Common.{◌≡◌, ℕ, ◌+◌, ◌≢◌, List, sym, refl, ap, ◌∙◌, arith}
 use Rattle.links.proofs.Addresses.{Place, cell, head, place_of, cell_at, head_at, tail_lies}
 use Rattle.links.proofs.Laws.{stays}
-use Rattle.links.specs.Area.{place_at, tail_at, Sound, Lies}
-use Rattle.links.specs.Rows.{Rows, Beyond, Frame}
+use Rattle.links.specs.Area.{place_at, tail_at}
+use Rattle.links.specs.Rows.{Rows, Frame}
 use Rattle.links.specs.declared.shape.Shape.{Shape}
 use Rattle.layout.specs.Areas.{Placed, Areas}
-use Rattle.layout.specs.Layout.{Good, narrow_need, lot_rows, order_rows, entry_rows}
+use Rattle.layout.specs.Layout.{Good, lot_rows, order_rows, entry_rows}
 use Rattle.layout.specs.Words.{Owner, lot_links, order_links, entry_links, owner, Only, OnlyWide}
 use Rattle.layout.specs.declared.limits.Limits.{Limits}
 use Rattle.layout.proofs.Owners.{owns_account, owns_order_link, owns_lot_link, owns_entry_link, owns_lot_head, owns_order_head}

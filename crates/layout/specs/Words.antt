@@ -1,5 +1,5 @@
 -- Whose each word of the two slices is. A step that keeps to the words of its subject leaves all others as they were.
-use Rattle.std.specs.Prelude.{◌≡◌, ℕ, ◌+◌, ◌-◌, ◌%◌, ◌<◌, ◌≤◌, cond, ◌≢◌, List, length, nat_lt, slice_index}
+use Rattle.std.specs.Prelude.{◌≡◌, ℕ, ◌-◌, ◌%◌, cond, ◌≢◌, List, length, nat_lt, slice_index}
 use Rattle.layout.specs.Layout.{accounts_at, items_at, orders_at, lots_at, parts_at, entries_at, entry_links_at, balances_at, stocks_at, wide_lots_at, wide_entries_at}
 use Rattle.layout.specs.declared.limits.Limits.{Limits}
 

@@ -1,8 +1,8 @@
 -- Words that are none of the shape's stay, whatever is done to the rows.
-use Rattle.std.proofs.Common.{◌≡◌, ℕ, ◌+◌, ◌-◌, ◌<◌, cond, eqb, List, length, get_or, set, sym, refl, ap, ◌∙◌, arith, length-set, get_or-set_other}
+use Rattle.std.proofs.Common.{ℕ, ◌+◌, ◌-◌, ◌<◌, eqb, List, set, refl, ◌∙◌, arith, length-set, get_or-set_other}
 use Rattle.std.proofs.lemmas.Bool.{cond_both}
 use Rattle.links.specs.Area.{place_at, tail_at, header_of, Sound, after_in, tail_in, inserted, removed, emptied, chained, filled}
-use Rattle.links.specs.Rows.{Beyond, Frame, Frames}
+use Rattle.links.specs.Rows.{Frame, Frames}
 use Rattle.links.specs.declared.shape.Shape.{Shape}
 use Rattle.links.proofs.Addresses.{header_is}
 use Rattle.links.proofs.Loops.{length_chained, length_emptied, chained_other, emptied_other}

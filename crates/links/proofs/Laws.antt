@@ -1,13 +1,12 @@
 -- The laws of rows in the words of a slice: insertion and removal anywhere, the walk, the tail, the free row.
-use Rattle.std.proofs.Common.{◌≡◌, ℕ, zero, suc, ◌+◌, ◌<◌, ◌≤◌, cond, ltb, ◌≢◌, ◌⊎◌, List, [], ◌∷◌, ◌++◌, length, get_or, set, Some, None, Option, sym, refl, ap, ◌∙◌, subst, ⊎_elim, append-nil, arith, length-set}
-use Rattle.std.proofs.lemmas.Bool.{cond_both, ltb-true}
+use Rattle.std.proofs.Common.{◌≡◌, ℕ, zero, suc, ◌+◌, ◌<◌, ◌≢◌, List, [], ◌∷◌, ◌++◌, length, get_or, set, Some, None, sym, refl, ap, ◌∙◌, subst, ⊎_elim, append-nil, arith, length-set}
 use Rattle.links.specs.Tables.{Tables, end, header, following, insert_after, remove_after}
-use Rattle.links.specs.Model.{Path, Holds, Spare, Removed, row, count, last, first, total, uses}
-use Rattle.links.specs.Area.{place_at, tail_at, header_of, tables, Sound, Lies, after_in, tail_in, following_in, on_in, nth_in, inserted, removed}
+use Rattle.links.specs.Model.{Path, Holds, Spare, Removed, row, count, last, first, total}
+use Rattle.links.specs.Area.{header_of, tables, Sound, tail_in, following_in, on_in, nth_in, inserted, removed}
 use Rattle.links.specs.Rows.{Rows, Loose, nth, Inserts, Removes, Walks, Follows, Tails, Frees, Stays, Once, RowsLaws}
 use Rattle.links.specs.declared.shape.Shape.{Shape}
 use Rattle.links.proofs.Addresses.{header_is}
-use Rattle.links.proofs.Counts.{count_here, count_last, count_cases, count_append, total_set, total_row}
+use Rattle.links.proofs.Counts.{count_last, count_cases, count_append, total_set}
 use Rattle.links.proofs.Frames.{frames}
 use Rattle.links.proofs.Keeps.{cell_below, insert_keeps, remove_keeps}
 use Rattle.links.proofs.Opened.{empties, fills}

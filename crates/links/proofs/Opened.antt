@@ -1,12 +1,12 @@
 -- What rows hold once they are emptied, and once one of them is filled with all cells.
-use Rattle.std.proofs.Common.{◌≡◌, ℕ, zero, suc, ◌+◌, ◌-◌, ◌<◌, ◌≤◌, eqb, ◌⊎◌, List, [], ◌∷◌, length, get_or, set, replicate, sum_by, sym, refl, ap, ◌∙◌, subst, inl, inr, ⊎_elim, arith, length-set, get_or-set_other, get_or-set_same}
+use Rattle.std.proofs.Common.{◌≡◌, ℕ, zero, suc, ◌+◌, ◌-◌, ◌<◌, ◌≤◌, eqb, ◌⊎◌, List, [], ◌∷◌, length, get_or, set, sum_by, sym, refl, ap, ◌∙◌, subst, inl, inr, ⊎_elim, arith, length-set, get_or-set_other, get_or-set_same}
 use lib.ListN.{length-replicate}
 use Rattle.std.proofs.lemmas.List.FromFn.{length-range_with_len}
 use Rattle.std.proofs.lemmas.List.{get_or-replicate}
 use Rattle.std.proofs.lemmas.List.Sums.{sum_by-cons}
 use Rattle.std.proofs.lemmas.Bool.{cond_both, cases_eq, eqb-true, eqb-false}
 use Rattle.std.specs.List.{range_with_len}
-use Rattle.links.specs.Model.{Path, last, count, uses, total, row, Row, Holds}
+use Rattle.links.specs.Model.{Path, last, count, uses, total, row, Row}
 use Rattle.links.specs.Area.{place_at, tail_at, header_of, Sound, Lies, tables, after_in, tail_in, emptied, chained, filled}
 use Rattle.links.specs.Rows.{Rows, blank, Empties, Fills}
 use Rattle.links.specs.declared.shape.Shape.{Shape}

@@ -1,5 +1,5 @@
 -- The turns of the loops: a walk along a row, rows emptied, cells chained.
-use Rattle.std.proofs.Common.{◌≡◌, ℕ, zero, suc, ◌+◌, ◌-◌, ◌<◌, ◌≤◌, List, set, Some, None, Option, sym, refl, ap, ◌∙◌, arith}
+use Rattle.std.proofs.Common.{◌≡◌, ℕ, zero, suc, ◌+◌, ◌-◌, ◌<◌, ◌≤◌, List, set, Some, None, Option, sym, ap, ◌∙◌, arith}
 use Rattle.links.specs.Area.{place_at, tail_at, header_of, following_in, on_in, emptied, chained}
 use Rattle.links.specs.declared.shape.Shape.{Shape}
 

@@ -1,5 +1,5 @@
 -- The tables through the words: what an operation on the slice does to them.
-use Rattle.std.proofs.Common.{◌≡◌, ℕ, ◌+◌, ◌-◌, ◌*◌, ◌<◌, ◌≤◌, Bool, true, false, cond, eqb, ltb, ◌≢◌, List, [], ◌∷◌, length, get_or, set, Some, None, sym, refl, ap, ◌∙◌, ap₂, arith, length-set, get_or-set_other}
+use Rattle.std.proofs.Common.{◌≡◌, ℕ, ◌+◌, ◌<◌, Bool, true, false, cond, eqb, ltb, List, [], ◌∷◌, length, get_or, set, Some, None, sym, ap, ◌∙◌, ap₂, arith, length-set}
 use Rattle.std.proofs.lemmas.Bool.{cond_both, lt-ltb, le-ltb, cond-true}
 use Rattle.links.specs.Area.{place_at, tail_at, tables, Sound, Lies, after_in, tail_in, following_in, inserted, removed}
 use Rattle.links.specs.Tables.{Tables, end, after, tail, following, insert_after, remove_after}

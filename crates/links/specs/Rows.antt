@@ -1,7 +1,7 @@
 -- Rows in the words of a slice, and what each operation does to them: the laws that a user of rows needs.
 use Rattle.std.specs.Prelude.{◌≡◌, ℕ, zero, suc, ◌+◌, ◌<◌, ◌≤◌, ◌≢◌, List, [], ◌∷◌, ◌++◌, length, replicate, Some, None, Option, slice_index, slice_set}
 use Rattle.std.specs.List.{range_with_len}
-use Rattle.links.specs.Area.{place_at, tail_at, header_of, tables, Sound, Lies, after_in, tail_in, following_in, nth_in, inserted, removed, emptied, filled}
+use Rattle.links.specs.Area.{place_at, tail_at, header_of, tables, Sound, Lies, tail_in, following_in, nth_in, inserted, removed, emptied, filled}
 use Rattle.links.specs.Model.{Holds, Spare, row, first, last, total, uses}
 use Rattle.links.specs.declared.shape.Shape.{Shape}
 

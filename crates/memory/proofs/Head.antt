@@ -1,5 +1,5 @@
 -- The words of the head: what was put is got, and the others stay.
-use Rattle.std.proofs.Common.{◌≡◌, ℕ, ◌<◌, ◌≤◌, cond, eqb, ◌≢◌, List, length, get_or, set, sym, refl, ap, ◌∙◌, arith, length-set, get_or-set_other, get_or-set_same}
+use Rattle.std.proofs.Common.{◌≡◌, ℕ, ◌<◌, ◌≤◌, cond, eqb, ◌≢◌, List, length, get_or, sym, refl, ap, ◌∙◌, arith, length-set, get_or-set_other, get_or-set_same}
 use Rattle.layout.proofs.Owners.{owns_limit, owns_counter, owns_total}
 use Rattle.layout.specs.Layout.{count_at, total_at}
 use Rattle.layout.specs.Words.{Owner, limits, counters, totals, owner, wide_owner, Only, OnlyWide}

@@ -1,31 +1,29 @@
 -- Opened books are empty, and keep every word beyond those that the limits ask for.
-use Rattle.std.proofs.Common.{◌≡◌, ℕ, ◌+◌, ◌-◌, ◌*◌, ◌<◌, ◌≤◌, cond, ltb, ◌≢◌, List, [], ◌++◌, length, get_or, drop, set, replicate, sym, refl, ap, ◌∙◌, subst, ap₂, arith, length-append, length-drop, length-set, get_or-set_other, get_or-set_same}
+use Rattle.std.proofs.Common.{◌≡◌, ℕ, ◌+◌, ◌-◌, ◌<◌, ◌≤◌, cond, ltb, ◌≢◌, List, length, get_or, drop, set, replicate, sym, refl, ap, ◌∙◌, subst, ap₂, arith, length-append, length-drop, length-set, get_or-set_other, get_or-set_same}
 use lib.ListN.{length-replicate}
 use Rattle.std.proofs.lemmas.List.{get_or_append_left, get_or-append_right, get_or-replicate, get_or-drop}
 use Rattle.std.proofs.lemmas.Bool.{cond_both}
 use Rattle.std.specs.List.{range_with_len}
 use Rattle.layout.proofs.Owners.{differ, owns_limit, owns_counter, owns_recipe}
-use Rattle.layout.proofs.Placed.{lot_rows_placed, order_rows_placed, entry_rows_placed, only_both, only_rows, only_wide_none, rows_kept}
+use Rattle.layout.proofs.Placed.{lot_rows_placed, order_rows_placed, entry_rows_placed, only_both, only_rows, rows_kept}
 use Rattle.layout.specs.Areas.{Placed}
 use Rattle.layout.specs.Layout.{Good, count_at, total_at, balance_at, stock_at, recipe_at, wide_need, narrow_need, lot_rows, order_rows, entry_rows}
 use Rattle.layout.specs.Words.{Owner, limits, counters, recipes, order_links, lot_links, entry_links, owner, Only}
-use Rattle.layout.specs.declared.head.Counter.{Counter}
-use Rattle.layout.specs.declared.head.Total.{Total}
 use Rattle.layout.specs.declared.limits.Limits.{Limits}
 use Rattle.links.proofs.Addresses.{place_inside, tail_inside}
 use Rattle.links.proofs.Frames.{emptied_frame, filled_frame}
 use Rattle.links.proofs.Opened.{empties, fills}
-use Rattle.links.specs.Area.{place_at, tail_at, Lies, emptied, filled}
+use Rattle.links.specs.Area.{Lies, filled}
 use Rattle.links.specs.Rows.{Rows, Beyond, Frame, blank}
 use Rattle.links.specs.declared.shape.Shape.{Shape}
 use Rattle.records.specs.Kind.{fits}
-use Rattle.records.specs.State.{State, state}
+use Rattle.records.specs.State.{State}
 use Rattle.records.specs.declared.balance.Balance.{Balance}
 use Rattle.records.specs.declared.recipe.Recipe.{Recipe}
 use Rattle.records.specs.declared.stock.Stock.{Stock}
 use Rattle.memory.specs.Books.{limits_in, count_of, total_of, recipe_of, balance_of, stock_of}
 use Rattle.memory.specs.Opened.{zeroed, with_limits, all_empty, with_rows, opened}
-use Rattle.memory.specs.Slots.{Roomy, Within, Empty, Opens}
+use Rattle.memory.specs.Slots.{Roomy, Opens}
 use Rattle.memory.proofs.Head.{count_place, total_place, limits_same}
 
 -- ZEROED WORDS

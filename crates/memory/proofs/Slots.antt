@@ -1,20 +1,17 @@
 -- The laws of slots, once for any kind of record that lies in rows of its own words, and at each kind.
-use Rattle.std.proofs.Common.{◌≡◌, ℕ, ◌+◌, ◌*◌, ◌<◌, ◌≤◌, Bool, true, false, cond, ◌&&◌, ltb, leb, ◌≢◌, ◌⊎◌, List, [], ◌∷◌, length, get_or, sym, refl, ap, ◌∙◌, subst, inl, inr, ⊎_elim, arith}
+use Rattle.std.proofs.Common.{◌≡◌, ℕ, ◌+◌, ◌<◌, ◌≤◌, Bool, true, false, cond, ◌&&◌, ltb, leb, ◌≢◌, ◌⊎◌, List, [], length, sym, refl, ap, ◌∙◌, subst, inl, inr, ⊎_elim, arith}
 use Rattle.std.proofs.lemmas.Bool.{cases_lt, le-leb, cond-true, cond-false, lt-ltb, le-ltb}
 use Rattle.layout.proofs.Owners.{owns_balance, owns_stock, owns_recipe, owns_order, owns_lot, owns_part, owns_entry, owns_wide_lot, owns_wide_entry}
 use Rattle.layout.specs.Layout.{balance_at, stock_at, recipe_at, order_at, lot_at, part_at, entry_at, wide_lot_at, wide_entry_at, wide_need, narrow_need}
-use Rattle.layout.specs.Words.{Owner, balances, stocks, orders, lots, recipes, parts, entries, owner, wide_owner, Only, OnlyWide}
+use Rattle.layout.specs.Words.{Owner, balances, stocks, orders, lots, recipes, parts, entries, owner, wide_owner}
 use Rattle.layout.specs.declared.limits.Limits.{Limits}
 use Rattle.records.proofs.Laws.{record_laws}
-use Rattle.records.specs.Kind.{Kind, over, fits, word, read, write, read_wide, write_wide, read_narrow, write_narrow, Outside, Laws}
+use Rattle.records.specs.Kind.{Kind, over, fits, word, read, write, write_wide, Outside, Laws}
 use Rattle.records.specs.Kinds.{lot_kind, order_kind, entry_kind, part_kind, recipe_kind, stock_kind, balance_kind}
 use Rattle.records.specs.State.{State, state}
 use Rattle.records.specs.declared.balance.Balance.{Balance}
-use Rattle.records.specs.declared.order.Order.{Order}
-use Rattle.records.specs.declared.part.Part.{Part}
-use Rattle.records.specs.declared.recipe.Recipe.{Recipe}
 use Rattle.memory.specs.Books.{order_record, put_order, lot_record, put_lot, entry_record, put_entry, part_record, put_part, recipe_of, put_recipe, balance_of, put_balance, stock_of, put_stock}
-use Rattle.memory.specs.Slots.{Roomy, Within, Slots}
+use Rattle.memory.specs.Slots.{Within, Slots}
 
 -- rows of so many words at `at 0`, `at 1` and so on, each before the next
 pub record Strip (size : ℕ) (at : ℕ → ℕ) : Type 0 where

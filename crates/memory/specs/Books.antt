@@ -6,7 +6,7 @@ use Rattle.layout.specs.declared.head.Total.{Total}
 use Rattle.layout.specs.declared.limits.Limits.{Limits}
 use Rattle.records.specs.Kind.{read, write, read_wide, write_wide, read_narrow, write_narrow}
 use Rattle.records.specs.Kinds.{lot_kind, order_kind, entry_kind, part_kind, recipe_kind, stock_kind, balance_kind}
-use Rattle.records.specs.State.{State, state}
+use Rattle.records.specs.State.{State}
 use Rattle.records.specs.declared.balance.Balance.{Balance}
 use Rattle.records.specs.declared.entry.Entry.{Entry}
 use Rattle.records.specs.declared.lot.Lot.{Lot}

@@ -1,9 +1,9 @@
 -- A walk meets the cells of its row, in order. Assumes nothing.
-use Rattle.std.proofs.Common.{◌≡◌, ℕ, zero, suc, ◌+◌, ◌<◌, ◌≤◌, List, [], ◌∷◌, length, Some, None, Option, sym, refl, ap, ◌∙◌, arith}
-use Rattle.links.specs.Area.{Sound, tables, following_in, header_of}
+use Rattle.std.proofs.Common.{◌≡◌, ℕ, zero, suc, ◌<◌, ◌≤◌, List, [], ◌∷◌, length, Option, sym, refl, ap, ◌∙◌, arith}
+use Rattle.links.specs.Area.{Sound, tables}
 use Rattle.links.specs.Model.{Path, row, first}
 use Rattle.links.specs.Rows.{Rows}
-use Rattle.links.specs.Tables.{Tables, end}
+use Rattle.links.specs.Tables.{end}
 use Rattle.links.specs.declared.shape.Shape.{Shape}
 use Rattle.links.proofs.Counts.{total_row}
 use Rattle.links.proofs.Laws.{first_is}

@@ -1,7 +1,7 @@
 -- The laws of getting after putting, proved once for any kind of record, and at each of the kinds.
-use Rattle.std.proofs.Common.{◌≡◌, ℕ, ◌+◌, ◌<◌, ◌≤◌, Bool, true, false, cond, ◌&&◌, eqb, leb, List, [], ◌∷◌, length, get_or, sym, refl, ap, ◌∙◌, subst, ap₂, arith}
+use Rattle.std.proofs.Common.{◌≡◌, ℕ, ◌+◌, ◌≤◌, Bool, true, false, cond, ◌&&◌, eqb, leb, length, get_or, sym, refl, ap, ◌∙◌, subst, ap₂, arith}
 use Rattle.std.proofs.lemmas.Bool.{cond_both, cond-true, le-leb, leb-true, and_from, and_parts}
-use Rattle.records.specs.Kind.{fits, word, over, Kind, lies, read, write, Outside, SameRow, Sound, Laws}
+use Rattle.records.specs.Kind.{fits, word, over, Kind, lies, read, write, Outside, Sound, Laws}
 use Rattle.records.specs.Kinds.{lot_kind, order_kind, entry_kind, part_kind, recipe_kind, stock_kind, balance_kind, RecordLaws}
 use Rattle.records.specs.State.{State, state}
 use Rattle.records.specs.declared.balance.Balance.{Balance}

@@ -1,5 +1,5 @@
 -- A kind of record, kept in a row of words of each slice: how one is read and written at any address of any memory, and the laws of it.
-use Rattle.std.specs.Prelude.{◌≡◌, ℕ, zero, suc, ◌+◌, ◌<◌, ◌≤◌, Bool, true, false, cond, ◌&&◌, ◌⊎◌, List, [], ◌++◌, length, take, drop, nat_le, slice_index}
+use Rattle.std.specs.Prelude.{◌≡◌, ℕ, zero, suc, ◌+◌, ◌<◌, ◌≤◌, Bool, cond, ◌&&◌, ◌⊎◌, List, [], ◌++◌, length, take, drop, nat_le, slice_index}
 use Rattle.records.specs.State.{State, state}
 
 -- the k words from a on lie in the list

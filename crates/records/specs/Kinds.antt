@@ -1,5 +1,5 @@
 -- The kinds of record: which words each is kept in.
-use Rattle.std.specs.Prelude.{ℕ, true, false, cond, [], ◌∷◌, ◌==◌}
+use Rattle.std.specs.Prelude.{false, cond, [], ◌∷◌, ◌==◌}
 use Rattle.records.specs.Kind.{Kind, Laws}
 use Rattle.records.specs.declared.lot.Lot.{Lot}
 use Rattle.records.specs.declared.order.Order.{Order}

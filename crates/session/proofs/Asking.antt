@@ -1,9 +1,8 @@
 -- Questions, what is no call, and what the stage does not do. Assumes nothing.
-use Rattle.std.proofs.Common.{◌≡◌, ℕ, ◌+◌, ◌*◌, ◌^◌, ◌<◌, ◌≤◌, Bool, true, false, cond, ◌&&◌, ◌||◌, eqb, ltb, List, [], ◌∷◌, map, length, get_or, sym, refl, ap, ◌∙◌, subst, ap₂, arith}
+use Rattle.std.proofs.Common.{◌≡◌, ℕ, ◌<◌, ◌≤◌, Bool, true, false, ◌&&◌, ◌||◌, eqb, ltb, List, [], map, length, get_or, sym, refl, ap, ◌∙◌, subst, ap₂, arith}
 use Rattle.std.proofs.lemmas.List.{length-map, get_or-map}
 use Rattle.std.proofs.lemmas.Bool.{cond_both, ltb-true, leb-true}
 use Rattle.firm.specs.Stock.{pick, on_hand, worth, all_worth, of_item}
-use Rattle.firm.specs.Stock as stock
 use Rattle.firm.specs.Ledger.{left_side, right_side, sum_of}
 use Rattle.firm.specs.Ledger as ledger
 use Rattle.firm.specs.Firm.{Firm, no_order, the_order}
@@ -20,7 +19,6 @@ use Rattle.firm.proofs.Picks.{pick_true, pick_false}
 use Rattle.firm.proofs.Turned.{turned_bad, turned_known, turned_not}
 use Rattle.layout.specs.Layout.{Good, lot_rows, entry_rows}
 use Rattle.layout.specs.declared.head.Counter.TheVariants.{Orders}
-use Rattle.layout.specs.declared.head.Total.TheVariants.{Booked, Worth}
 use Rattle.layout.proofs.Placed.{lot_rows_placed, entry_rows_placed}
 use Rattle.links.specs.Model.{row}
 use Rattle.links.proofs.Counts.{total_row}
@@ -36,7 +34,7 @@ use Rattle.records.specs.declared.balance.Balance.{Balance}
 use Rattle.records.specs.declared.stock.Stock.{Stock}
 use Rattle.rules.specs.Asking.{stock_told, account_told, order_told}
 use Rattle.rules.specs.Outcome.{outcome, refuse}
-use Rattle.store.specs.View.{Kept, cells}
+use Rattle.store.specs.View.{Kept}
 use Rattle.session.specs.Calling.{lots_told}
 use Rattle.session.proofs.Counting.{on_hand_is, worth_is, worth_most, lots_along, stock_along, pieces_most, left_most, right_most, sides_along}
 use Rattle.session.specs.Means.{Means, order_of, entry_of, limits_of}

@@ -1,5 +1,5 @@
 -- An order to buy. Assumes nothing.
-use Rattle.std.proofs.Common.{◌≡◌, ℕ, suc, ◌+◌, ◌-◌, ◌^◌, ◌<◌, ◌≤◌, min, Bool, true, false, cond, ◌&&◌, ◌||◌, eqb, ltb, leb, ◌⊎◌, List, [], ◌∷◌, ◌++◌, map, length, Ok, Err, sym, refl, ap, ◌∙◌, subst, ap₂, inl, inr, append-nil, arith}
+use Rattle.std.proofs.Common.{◌≡◌, ℕ, suc, ◌+◌, ◌-◌, ◌^◌, ◌<◌, ◌≤◌, min, Bool, true, false, cond, ◌&&◌, ◌||◌, eqb, ltb, leb, List, [], ◌∷◌, ◌++◌, length, Ok, sym, refl, ap, ◌∙◌, subst, ap₂, inl, inr, append-nil, arith}
 use Rattle.std.proofs.lemmas.List.{length_push, length-map, map-append}
 use Rattle.std.proofs.lemmas.Bool.{cond_both, and_parts, leb-true, ltb-true, lt-ltb, le-ltb, cases_lt}
 use Rattle.firm.specs.Ledger.{sum_of}
@@ -17,19 +17,17 @@ use Rattle.firm.proofs.Bounds.{reached_parts}
 use Rattle.firm.proofs.Fitting.{fits_by}
 use Rattle.firm.proofs.Turned.{turned_bad, turned_full, turned_not}
 use Rattle.layout.specs.Layout.{Good}
-use Rattle.layout.specs.declared.head.Counter.TheVariants.{Orders}
 use Rattle.layout.specs.declared.head.Total.TheVariants.{Documents}
-use Rattle.memory.specs.Books.{count_of, total_of}
+use Rattle.memory.specs.Books.{total_of}
 use Rattle.records.specs.State.{State, state}
 use Rattle.records.specs.declared.order.Order.{Order}
-use Rattle.rules.specs.Buying.{new_order, buys_fields, bought, added, buys}
+use Rattle.rules.specs.Buying.{new_order, buys_fields, added, buys}
 use Rattle.rules.specs.Checks.{in_time}
-use Rattle.rules.specs.Outcome.{Outcome, outcome, refuse}
+use Rattle.rules.specs.Outcome.{refuse}
 use Rattle.rules.specs.Totals.{raised}
 use Rattle.store.specs.Laws.{with_orders, with_total}
 use Rattle.store.specs.Steps.{After, after, order_placed, add_order}
 use Rattle.store.specs.View.{Kept, Stands}
-use Rattle.store.specs.declared.refusal.Refusal.TheVariants.{Full}
 use Rattle.store.proofs.OrderLaws.{adds_order, refuses_order}
 use Rattle.session.specs.Means.{Means, order_of, limits_of}
 use Rattle.session.proofs.Steps.{raised_stands}

@@ -1,5 +1,5 @@
 -- One call on memory that means a firm: what `call` returns and leaves, said by the meaning. Assumes nothing.
-use Rattle.std.proofs.Common.{◌≡◌, ℕ, ◌≤◌, true, ◌&&◌, leb, List, length, Some, Option, sym, refl, ap, ◌∙◌, subst, arith}
+use Rattle.std.proofs.Common.{◌≡◌, ℕ, ◌≤◌, true, ◌&&◌, leb, List, length, Some, sym, ap, subst}
 use Rattle.std.proofs.lemmas.Bool.{cond-true, and_from, le-leb}
 use Rattle.fields.specs.Written.{over}
 use Rattle.firm.specs.Firm.{Firm}
@@ -11,7 +11,6 @@ use Rattle.layout.specs.Layout.{Good, is_good, wide_need, narrow_need, answer_ne
 use Rattle.layout.specs.declared.limits.Limits as memory
 use Rattle.memory.specs.Books.{limits_in}
 use Rattle.records.specs.State.{State}
-use Rattle.rules.specs.Outcome.{Outcome}
 use Rattle.wire.specs.Answers.{bytes_of_answer}
 use Rattle.session.specs.Calling.{done, suffices, Called, told_in, called}
 use Rattle.session.specs.Means.{limits_of, Means}

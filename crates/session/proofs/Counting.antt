@@ -1,5 +1,5 @@
 -- What lies on hand and what stands on accounts, added up along rows: the sums of the meaning. Assumes nothing.
-use Rattle.std.proofs.Common.{◌≡◌, ℕ, zero, suc, ◌+◌, ◌-◌, ◌*◌, ◌/◌, ◌%◌, ◌^◌, ◌<◌, ◌≤◌, min, Bool, true, false, cond, eqb, List, [], ◌∷◌, ◌++◌, map, length, get_or, sym, refl, ap, ◌∙◌, subst, ap₂, append_assoc, append-nil, arith}
+use Rattle.std.proofs.Common.{◌≡◌, ℕ, suc, ◌+◌, ◌-◌, ◌*◌, ◌/◌, ◌%◌, ◌^◌, ◌<◌, ◌≤◌, min, Bool, true, false, cond, eqb, List, [], ◌∷◌, ◌++◌, map, length, get_or, sym, refl, ap, ◌∙◌, ap₂, append_assoc, append-nil, arith}
 use Rattle.std.proofs.lemmas.Bool.{cond_both}
 use Rattle.firm.specs.Stock.{pick, on_hand, worth, all_worth, of_item}
 use Rattle.firm.specs.Stock as stock
@@ -11,7 +11,7 @@ use Rattle.layout.specs.Layout.{lot_at}
 use Rattle.layout.specs.declared.limits.Limits.{Limits}
 use Rattle.memory.specs.Books.{lot_record, entry_record}
 use Rattle.questions.specs.Listing.{lot_of, lots_step}
-use Rattle.questions.specs.Sums.{plus, beside, stock_step, sides_step}
+use Rattle.questions.specs.Sums.{plus, stock_step, sides_step}
 use Rattle.questions.specs.Walk.{put_all}
 use Rattle.records.specs.Kind.{word, lies}
 use Rattle.records.specs.Kinds.{lot_kind, entry_kind}

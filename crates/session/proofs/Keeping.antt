@@ -1,5 +1,5 @@
 -- From one call to every list of calls: what the promises ask of the keeper. Assumes nothing.
-use Rattle.std.proofs.Common.{◌≡◌, ℕ, suc, ◌+◌, ◌-◌, ◌*◌, ◌^◌, ◌<◌, ◌≤◌, min, Bool, true, ltb, leb, List, [], ◌∷◌, ◌++◌, length, get_or, take, drop, replicate, sym, refl, ap, ◌∙◌, subst, ap₂, arith, length-append}
+use Rattle.std.proofs.Common.{◌≡◌, ℕ, suc, ◌+◌, ◌*◌, ◌^◌, ◌<◌, ◌≤◌, true, ltb, List, [], ◌∷◌, ◌++◌, length, take, drop, sym, refl, ap, ◌∙◌, subst, ap₂, arith, length-append}
 use Rattle.std.proofs.lemmas.List.{take_at, drop_at, get_or_append_left, length-replicate}
 use Rattle.std.proofs.lemmas.Bool.{and_parts, and_from, lt-ltb}
 use Rattle.firm.specs.Firm.{Firm, new_firm}
@@ -8,7 +8,7 @@ use Rattle.firm.specs.Calls as calls
 use Rattle.firm.specs.Refusals.{turned, place}
 use Rattle.firm.specs.Answers.{after, answer, ran}
 use Rattle.firm.specs.Promise.{GoodLimits, Memory, all_below, thin}
-use Rattle.firm.specs.Keeping.{Steps, AllSteps, Stays, KeepsSound, Within}
+use Rattle.firm.specs.Keeping.{AllSteps, Stays, KeepsSound, Within}
 use Rattle.firm.specs.Statements.{Reached}
 use Rattle.firm.specs.Ledger.{sum_of}
 use Rattle.firm.specs.Stock.{all_worth, of_item}
@@ -16,14 +16,13 @@ use Rattle.layout.specs.Layout.{Good, wide_need, narrow_need}
 use Rattle.layout.specs.declared.limits.Limits as memory
 use Rattle.memory.specs.Books.{limits_in}
 use Rattle.memory.specs.Opened.{opened}
-use Rattle.memory.specs.Slots.{Roomy}
 use Rattle.memory.proofs.Head.{limits_same}
 use Rattle.records.specs.State.{State, state}
 use Rattle.store.specs.Laws.{nothing_kept}
 use Rattle.store.proofs.Opening.{opens_empty}
 use Rattle.session.specs.Calling.{done}
 use Rattle.session.specs.Keeper.{memory_of, state_of, blank, keeper, Standing, for_stage, Sound}
-use Rattle.session.specs.Means.{limits_of, Below, Means, Sized}
+use Rattle.session.specs.Means.{limits_of, Below, Means}
 use Rattle.session.proofs.Asking.{order_done, stock_done, lots_done, account_done, garbled_done, other_done}
 use Rattle.session.proofs.Buying.{buys_done}
 use Rattle.session.proofs.Receiving.{comes_done}

@@ -1,7 +1,7 @@
 -- Goods that come on an order to buy. Assumes nothing.
-use Rattle.std.proofs.Common.{◌≡◌, ℕ, suc, ◌+◌, ◌-◌, ◌*◌, ◌^◌, ◌<◌, ◌≤◌, min, Bool, true, false, cond, ◌&&◌, ◌||◌, eqb, ltb, leb, ◌⊎◌, List, [], ◌∷◌, ◌++◌, map, length, get_or, set, Ok, Err, sym, refl, ap, ◌∙◌, subst, ap₂, inl, inr, append-nil, arith, length-set}
+use Rattle.std.proofs.Common.{◌≡◌, ℕ, suc, ◌+◌, ◌-◌, ◌*◌, ◌^◌, ◌<◌, ◌≤◌, min, Bool, true, false, cond, ◌&&◌, ◌||◌, eqb, ltb, leb, ◌⊎◌, List, [], ◌∷◌, ◌++◌, map, length, get_or, set, Ok, sym, refl, ap, ◌∙◌, subst, ap₂, inl, inr, append-nil, arith, length-set}
 use Rattle.std.proofs.lemmas.List.{length_push, length-map, map-append, map-set, get_or-map}
-use Rattle.std.proofs.lemmas.Bool.{cond_both, cond-true, cond-false, and_parts, leb-true, ltb-true, le-leb, lt-leb, cases_lt, cases_eq, eqb-true, eqb-false, eq-eqb, ne_eqb}
+use Rattle.std.proofs.lemmas.Bool.{cond_both, cond-true, cond-false, and_parts, leb-true, ltb-true, le-leb, lt-leb, cases_lt, cases_eq, eq-eqb, ne_eqb}
 use Rattle.firm.specs.Stock.{pick, of_item}
 use Rattle.firm.specs.Stock as stock
 use Rattle.firm.specs.Ledger.{entry}
@@ -33,19 +33,18 @@ use Rattle.records.specs.declared.entry.Entry.{Entry}
 use Rattle.records.specs.declared.lot.Lot.{Lot}
 use Rattle.records.specs.declared.order.Order.{Order}
 use Rattle.rules.specs.Checks.{in_time, enters, stores}
-use Rattle.rules.specs.Outcome.{Outcome, outcome, refuse}
-use Rattle.rules.specs.Receiving.{moved_more, with_order, entered, summed, received, comes_fits, new_lot, stored, placed, comes}
+use Rattle.rules.specs.Outcome.{refuse}
+use Rattle.rules.specs.Receiving.{moved_more, with_order, entered, summed, received, comes_fits, new_lot, placed, comes}
 use Rattle.rules.specs.Totals.{raised}
 use Rattle.store.specs.Laws.{with_lots, with_orders, with_entries, with_total}
-use Rattle.store.specs.Steps.{After, after, lot_placed, add_lot, set_order, entry_placed, add_entry}
+use Rattle.store.specs.Steps.{After, after, lot_placed, add_lot, set_order, add_entry}
 use Rattle.store.specs.View.{Kept, Stands}
-use Rattle.store.specs.declared.refusal.Refusal.TheVariants.{Full}
 use Rattle.store.proofs.EntryLaws.{adds_entry}
 use Rattle.store.proofs.LotLaws.{adds_lot, refuses_lot}
 use Rattle.store.proofs.OrderLaws.{sets_order}
 use Rattle.session.specs.Means.{Means, order_of, entry_of, limits_of, Sized}
 use Rattle.session.proofs.Steps.{of_item_push, raised_stands}
-use Rattle.session.proofs.Small.{SmallOrder, SmallLot, SmallEntry, sized_put_order, sized_lot_placed, sized_entry_placed, sized_raised, order_billed_small}
+use Rattle.session.proofs.Small.{sized_put_order, sized_lot_placed, sized_entry_placed, sized_raised, order_billed_small}
 use Rattle.session.proofs.Turning.{Done, refuses, goes}
 
 module _ (l : Limits) (s : State) (f : Firm) (k q : ℕ) (good : Good (limits_of l)) (cans : l.calls_can ≡ thin) (r : Reached l f) (h : Means (limits_of l) s f) where

@@ -1,5 +1,5 @@
 -- Words stay as many and as small: what each step leaves has as many words as were there, each below its bound. Assumes nothing.
-use Rattle.std.proofs.Common.{◌≡◌, ℕ, zero, suc, ◌+◌, ◌-◌, ◌*◌, ◌^◌, ◌<◌, ◌≤◌, min, cond, ◌&&◌, eqb, ◌⊎◌, List, [], ◌∷◌, ◌++◌, length, get_or, drop, set, replicate, sym, refl, ap, ◌∙◌, subst, inl, inr, ⊎_elim, arith, length-append, length-drop, length-set, get_or-set_other, get_or-set_same}
+use Rattle.std.proofs.Common.{◌≡◌, ℕ, zero, suc, ◌+◌, ◌-◌, ◌^◌, ◌<◌, ◌≤◌, cond, eqb, List, [], ◌∷◌, length, get_or, drop, set, replicate, sym, refl, ap, ◌∙◌, subst, inl, inr, ⊎_elim, arith, length-append, length-drop, length-set, get_or-set_other, get_or-set_same}
 use Rattle.std.proofs.lemmas.List.{set_past, get_or_past, get_or_append_left, get_or-append_right, get_or-drop, get_or-replicate, length-replicate}
 use Rattle.std.proofs.lemmas.Bool.{cond_both, cases_lt, cases_eq, and_parts, leb-true}
 use Rattle.layout.specs.declared.limits.Limits.{Limits}
@@ -11,7 +11,7 @@ use Rattle.links.specs.Area.{place_at, tail_at, header_of, after_in, tail_in, in
 use Rattle.links.specs.declared.shape.Shape.{Shape}
 use Rattle.memory.specs.Books.{count_of, put_count, put_total, order_record, put_order, put_lot, put_entry}
 use Rattle.memory.specs.Opened.{zeroed, with_limits, with_rows, opened}
-use Rattle.records.specs.Kind.{fits, word, over, Kind, lies, write, write_narrow}
+use Rattle.records.specs.Kind.{fits, word, over, Kind, lies, write}
 use Rattle.records.specs.Kinds.{lot_kind, order_kind, entry_kind}
 use Rattle.records.specs.State.{State, state}
 use Rattle.records.specs.declared.entry.Entry.{Entry}

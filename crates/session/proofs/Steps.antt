@@ -1,28 +1,15 @@
 -- Lots of an item with one more, and totals that are raised. Assumes nothing.
-use Rattle.std.proofs.Common.{◌≡◌, ℕ, zero, suc, ◌+◌, ◌-◌, ◌^◌, ◌<◌, ◌≤◌, min, Bool, true, false, cond, eqb, ◌⊎◌, List, [], ◌∷◌, ◌++◌, map, length, get_or, set, sym, refl, ap, ◌∙◌, subst, ap₂, inl, inr, arith}
-use Rattle.std.proofs.lemmas.Bool.{cases_eq, cond-true, cond-false, eq-eqb, ne_eqb}
+use Rattle.std.proofs.Common.{◌≡◌, ℕ, ◌+◌, ◌-◌, ◌^◌, min, Bool, true, false, eqb, List, [], ◌∷◌, ◌++◌, refl, ap, subst}
 use Rattle.firm.specs.Stock as stock
 use Rattle.firm.specs.Stock.{pick, all_worth, of_item}
-use Rattle.firm.specs.Ledger as ledger
-use Rattle.firm.specs.Ledger.{sum_of}
-use Rattle.firm.specs.Firm as firm
-use Rattle.firm.specs.Firm.{Firm, no_order}
-use Rattle.firm.specs.Calls as calls
-use Rattle.firm.proofs.Picks.{pick_true, pick_false}
 use Rattle.layout.specs.Layout.{Good}
 use Rattle.layout.specs.declared.head.Total.{Total}
-use Rattle.layout.specs.declared.head.Total.TheVariants.{Documents, Booked, Worth}
 use Rattle.layout.specs.declared.limits.Limits.{Limits}
 use Rattle.memory.specs.Books.{total_of, put_total}
-use Rattle.questions.specs.Listing.{lot_of}
-use Rattle.records.specs.Kinds.{order_kind}
 use Rattle.records.specs.State.{State, state}
-use Rattle.records.specs.declared.entry.Entry.{Entry}
-use Rattle.records.specs.declared.lot.Lot.{Lot}
-use Rattle.records.specs.declared.order.Order.{Order}
 use Rattle.rules.specs.Totals.{raised}
 use Rattle.store.specs.Laws.{with_total}
-use Rattle.store.specs.View.{Kept, pieces, numbers, only_if, Stands}
+use Rattle.store.specs.View.{Kept, Stands}
 use Rattle.store.proofs.TotalLaws.{puts_total}
 
 -- LOTS of an item, with one more

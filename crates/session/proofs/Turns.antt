@@ -1,5 +1,5 @@
 -- A run: what was written so far, and what the rest of the rows will be answered. Assumes nothing.
-use Rattle.std.proofs.Common.{◌≡◌, ℕ, ◌<◌, ◌≤◌, ltb, List, [], ◌∷◌, ◌++◌, length, take, Some, Option, sym, refl, ap, ◌∙◌, subst, ap₂, append_assoc, append-nil, arith}
+use Rattle.std.proofs.Common.{◌≡◌, ℕ, ◌≤◌, ltb, List, [], ◌∷◌, ◌++◌, length, sym, refl, ap, ◌∙◌, subst, ap₂, append_assoc, append-nil, arith}
 use Rattle.std.proofs.lemmas.List.{take_at}
 use Rattle.std.proofs.lemmas.Bool.{cond-true, cond-false, le-ltb}
 use Rattle.fields.specs.Written.{over}
@@ -14,7 +14,7 @@ use Rattle.memory.specs.declared.opening.Opening.{Opening}
 use Rattle.records.specs.State.{State}
 use Rattle.wire.specs.Answers.{bytes_of_answer}
 use Rattle.wire.specs.Calls.{call_of}
-use Rattle.session.specs.Calling.{Called, called}
+use Rattle.session.specs.Calling.{called}
 use Rattle.session.specs.Means.{Means}
 use Rattle.session.specs.Running.{rows_of, framed, books_limits, answered_rows, ran, RowDone, row_done, answer_row, row_answered}
 use Rattle.session.proofs.Called.{Answered, good_tested, called_means}

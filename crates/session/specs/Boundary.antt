@@ -1,5 +1,5 @@
 -- What crosses the boundary to other languages: limits as a list of numbers, and one signed number as the result. Definitions only: nothing is assumed.
-use Rattle.std.specs.Prelude.{ℕ, ◌+◌, ◌-◌, ◌*◌, ◌^◌, Bool, true, false, cond, ◌&&◌, List, length, ℤ, pos, negsuc, Some, None, Option, nat_le, slice_index}
+use Rattle.std.specs.Prelude.{ℕ, ◌+◌, ◌-◌, ◌*◌, ◌^◌, Bool, cond, ◌&&◌, List, length, ℤ, pos, negsuc, Some, None, Option, nat_le, slice_index}
 use Rattle.layout.specs.declared.limits.Limits.{Limits}
 
 -- items, orders, lots, parts and entries; a shorter list means 0 for the rest

@@ -1,5 +1,5 @@
 -- The keeper: what the contracts of `open` and `call` say of memory and of the answer, over one list of words. Definitions only: nothing is assumed.
-use Rattle.std.specs.Prelude.{◌≡◌, ℕ, List, ◌++◌, take, drop, replicate}
+use Rattle.std.specs.Prelude.{◌≡◌, ◌++◌, take, drop, replicate}
 use Rattle.firm.specs.Firm.{Firm}
 use Rattle.firm.specs.Calls.{Limits}
 use Rattle.firm.specs.Promise.{Memory, Keeper, thin}

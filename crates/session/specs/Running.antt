@@ -1,5 +1,5 @@
 -- A whole list of calls as bytes: each call behind its length in a field of eight bytes, and each answer likewise. Definitions only: nothing is assumed.
-use Rattle.std.specs.Prelude.{◌≡◌, ℕ, zero, suc, ◌+◌, List, [], ◌∷◌, ◌++◌, map, length, take, drop, Some, None, Option}
+use Rattle.std.specs.Prelude.{◌≡◌, ℕ, zero, suc, List, [], ◌∷◌, ◌++◌, map, length, take, drop, Some, None, Option}
 use Rattle.std.specs.List.{flat_map}
 use Rattle.fields.specs.Bytes.{field_bytes, field_at}
 use Rattle.firm.specs.Firm.{Firm, new_firm}

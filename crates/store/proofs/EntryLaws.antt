@@ -1,5 +1,5 @@
 -- Entries kept and read: what it means for the lists.
-use Rattle.std.proofs.Common.{◌≡◌, ℕ, zero, suc, ◌+◌, ◌*◌, ◌/◌, ◌<◌, ◌≤◌, Bool, true, false, cond, ◌||◌, eqb, leb, List, [], ◌∷◌, ◌++◌, map, length, get_or, set, Ok, sym, refl, ap, ◌∙◌, subst, ap₂, append_assoc, arith, length-set}
+use Rattle.std.proofs.Common.{◌≡◌, ℕ, zero, suc, ◌+◌, ◌*◌, ◌/◌, ◌<◌, Bool, true, false, ◌||◌, eqb, leb, List, [], ◌∷◌, ◌++◌, map, length, get_or, set, Ok, sym, refl, ap, ◌∙◌, subst, ap₂, append_assoc, arith, length-set}
 use Rattle.std.proofs.lemmas.List.{length_push, map-append}
 use Rattle.std.proofs.lemmas.Bool.{cond-false, or_from, lt-leb}
 use Rattle.layout.proofs.Owners.{differ}
@@ -19,8 +19,8 @@ use Rattle.records.specs.Kinds.{entry_kind}
 use Rattle.records.specs.State.{State, state}
 use Rattle.records.specs.declared.entry.Entry.{Entry}
 use Rattle.store.specs.Laws.{with_entries, AddsEntry, RefusesEntry, ReadsEntry, WalksEntries}
-use Rattle.store.specs.Steps.{after, pushed, left_cell, right_cell, entry_linked, entry_placed, add_entry, entry_found, nth_entry}
-use Rattle.store.specs.View.{Kept, Table, Numbered, pieces, only_if, cells, entries_of, EntriesStand, Stands}
+use Rattle.store.specs.Steps.{after, pushed, left_cell, right_cell, entry_linked, entry_placed, entry_found}
+use Rattle.store.specs.View.{Kept, Numbered, pieces, only_if, cells, EntriesStand, Stands}
 use Rattle.store.proofs.Beside.{BesideEntries, beside_entries_at_entries, beside_entries_at_entry_links, beside_entries_count, counted}
 use Rattle.store.proofs.Numbered.{push_frame, row_pushed, pieces_push, numbered_kept, push_next}
 use Rattle.store.proofs.Tables.{table_push, when_lt, when_ge}

@@ -1,5 +1,5 @@
 -- What each part of the books needs of a step to stand after it: that the step keeps to words of others, and its own counter.
-use Rattle.std.proofs.Common.{◌≡◌, ℕ, ◌+◌, ◌*◌, ◌<◌, ◌≤◌, ◌≢◌, List, [], ◌∷◌, map, length, get_or, sym, refl, ap, ◌∙◌, ap₂, arith}
+use Rattle.std.proofs.Common.{◌≡◌, ℕ, ◌<◌, ◌≢◌, List, [], ◌∷◌, map, refl, ◌∙◌, ap₂, arith}
 use Rattle.layout.proofs.Placed.{lot_rows_placed, order_rows_placed, entry_rows_placed, rows_kept}
 use Rattle.layout.specs.Layout.{Good, lot_rows, order_rows, entry_rows}
 use Rattle.layout.specs.Words.{Owner, limits, totals, orders, order_links, lots, lot_links, recipes, parts, entries, entry_links}
@@ -19,7 +19,7 @@ use Rattle.records.specs.declared.lot.Lot.{Lot}
 use Rattle.records.specs.declared.order.Order.{Order}
 use Rattle.records.specs.declared.part.Part.{Part}
 use Rattle.records.specs.declared.recipe.Recipe.{Recipe}
-use Rattle.store.specs.View.{Frame, Numbered, LotsStand, OrdersStand, EntriesStand, RecipesStand}
+use Rattle.store.specs.View.{Frame, LotsStand, OrdersStand, EntriesStand, RecipesStand}
 
 -- a map stays where each of its values does
 pub map_same : {X : Type 0} (f g : ℕ → X) (xs : List ℕ) → ((c : ℕ) → 0 < count c xs → f c ≡ g c) → map f xs ≡ map g xs

@@ -1,17 +1,17 @@
 -- Lots kept, taken out and read: what it means for the lists.
-use Rattle.std.proofs.Common.{◌≡◌, ℕ, zero, suc, ◌+◌, ◌-◌, ◌<◌, ◌≤◌, cond, eqb, ◌≢◌, ◌⊎◌, List, [], ◌∷◌, ◌++◌, map, length, set, Some, None, Ok, Err, Option, sym, refl, ap, ◌∙◌, subst, ap₂, inl, inr, ⊎_elim, arith, length-set, get_or-set_other, get_or-set_same}
+use Rattle.std.proofs.Common.{◌≡◌, ℕ, zero, suc, ◌+◌, ◌-◌, ◌<◌, ◌≤◌, ◌⊎◌, List, [], ◌∷◌, ◌++◌, map, length, set, Ok, Err, sym, refl, ap, ◌∙◌, ap₂, inl, inr, arith, length-set, get_or-set_other, get_or-set_same}
 use Rattle.std.proofs.lemmas.List.{map-append}
 use Rattle.std.proofs.lemmas.Bool.{cases_eq}
 use Rattle.layout.proofs.Owners.{differ}
 use Rattle.layout.proofs.Placed.{lot_rows_placed, only_wide_none, rows_kept}
 use Rattle.layout.specs.Layout.{Good, lot_rows}
-use Rattle.layout.specs.Words.{counters, lots, lot_links, Only}
+use Rattle.layout.specs.Words.{counters, lots, lot_links}
 use Rattle.layout.specs.declared.head.Counter.TheVariants.{Lots}
 use Rattle.layout.specs.declared.limits.Limits.{Limits}
 use Rattle.links.proofs.Counts.{apart, count_here, two_rows, total_set, total_row}
 use Rattle.links.proofs.Laws.{first_is, cell_is, walks, follows}
 use Rattle.links.proofs.View.{end_is}
-use Rattle.links.specs.Model.{row, count, first, total}
+use Rattle.links.specs.Model.{row, count, first}
 use Rattle.links.specs.Rows.{Rows, nth}
 use Rattle.memory.proofs.Head.{count_same}
 use Rattle.memory.proofs.Slots.{lot_slots}
@@ -20,12 +20,12 @@ use Rattle.memory.specs.Slots.{Within}
 use Rattle.records.specs.State.{State, state}
 use Rattle.records.specs.declared.lot.Lot.{Lot}
 use Rattle.store.specs.Laws.{with_lots, AddsLot, RefusesLot, RemovesLot, LacksLot, ReadsLot, WalksLots}
-use Rattle.store.specs.Steps.{after, moved_in, moved_out, one_more, lot_placed, on_free, add_lot, lot_freed, on_first, remove_lot, lot_found, nth_lot}
+use Rattle.store.specs.Steps.{after, moved_in, moved_out, one_more, lot_placed, on_free, add_lot, lot_freed, on_first, remove_lot, lot_found}
 use Rattle.store.specs.View.{Kept, LotsStand, Stands}
 use Rattle.store.specs.declared.refusal.Refusal.TheVariants.{NoLot, Full}
 use Rattle.store.proofs.Beside.{BesideLots, beside_lots_at_lots, beside_lots_at_lot_links, beside_lots_count, counted}
 use Rattle.store.proofs.Kept.{map_same}
-use Rattle.store.proofs.LotSteps.{small, moved_in_rows, moved_in_only, moved_out_rows, moved_out_only}
+use Rattle.store.proofs.LotSteps.{moved_in_rows, moved_in_only, moved_out_rows, moved_out_only}
 use Rattle.store.proofs.Tables.{at_same, at_other, when_lt}
 
 -- all but the lots

@@ -1,5 +1,5 @@
 -- Opened memory keeps nothing.
-use Rattle.std.proofs.Common.{◌≡◌, ℕ, ◌+◌, ◌*◌, ◌<◌, ◌≤◌, List, [], ◌∷◌, map, length, set, sym, refl, ap, ◌∙◌, arith, get_or-set_other, get_or-set_same}
+use Rattle.std.proofs.Common.{ℕ, ◌+◌, ◌<◌, List, [], map, length, set, ap, ◌∙◌, arith, get_or-set_other, get_or-set_same}
 use lib.ListN.{length-replicate}
 use Rattle.std.proofs.lemmas.List.FromFn.{length-range_with_len}
 use Rattle.std.proofs.lemmas.List.{get_or-replicate}
@@ -7,7 +7,6 @@ use Rattle.std.specs.List.{range_with_len}
 use Rattle.layout.specs.declared.head.Counter.TheVariants.{Orders, Entries, Parts, Lots}
 use Rattle.layout.specs.declared.limits.Limits.{Limits}
 use Rattle.links.proofs.Opened.{uses_none, total_none}
-use Rattle.links.specs.Model.{row}
 use Rattle.links.specs.Rows.{blank}
 use Rattle.memory.proofs.Opened.{opens}
 use Rattle.memory.specs.Books.{lot_record}

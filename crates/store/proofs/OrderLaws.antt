@@ -1,5 +1,5 @@
 -- Orders kept, changed and read: what it means for the lists.
-use Rattle.std.proofs.Common.{◌≡◌, ℕ, ◌+◌, ◌<◌, ◌≤◌, cond, eqb, List, [], ◌∷◌, ◌++◌, length, set, Ok, sym, refl, ap, ◌∙◌, subst, arith, length-set}
+use Rattle.std.proofs.Common.{◌≡◌, ℕ, ◌+◌, ◌<◌, eqb, List, [], ◌∷◌, ◌++◌, length, set, Ok, sym, ap, ◌∙◌, subst, arith, length-set}
 use Rattle.std.proofs.lemmas.List.{length_push, map-id}
 use Rattle.layout.proofs.Owners.{differ}
 use Rattle.layout.proofs.Placed.{order_rows_placed, only_rows, only_wide_none}
@@ -18,7 +18,7 @@ use Rattle.records.specs.Kinds.{order_kind}
 use Rattle.records.specs.State.{State, state}
 use Rattle.records.specs.declared.order.Order.{Order}
 use Rattle.store.specs.Laws.{with_orders, AddsOrder, RefusesOrder, SetsOrder, ReadsOrder, WalksOrders}
-use Rattle.store.specs.Steps.{after, pushed, order_placed, add_order, set_order, nth_order}
+use Rattle.store.specs.Steps.{after, pushed, order_placed}
 use Rattle.store.specs.View.{Kept, Numbered, only_if, numbers, OrdersStand, Stands}
 use Rattle.store.proofs.Beside.{BesideOrders, beside_orders_at_orders, beside_orders_at_order_links, beside_orders_count, counted}
 use Rattle.store.proofs.Numbered.{push_frame, row_pushed, pieces_push, pieces_set, numbered_kept, push_next}

@@ -1,5 +1,5 @@
 -- Parts of recipes kept, and recipes begun: what it means for the lists.
-use Rattle.std.proofs.Common.{◌≡◌, ℕ, ◌+◌, ◌<◌, ◌≤◌, cond, ◌⊎◌, List, [], ◌∷◌, ◌++◌, length, Ok, sym, refl, ap, ◌∙◌, subst, ⊎_elim, arith}
+use Rattle.std.proofs.Common.{◌≡◌, ℕ, ◌+◌, ◌<◌, List, [], ◌∷◌, ◌++◌, length, Ok, sym, ap, ◌∙◌, subst, ⊎_elim, arith}
 use Rattle.std.proofs.lemmas.List.{length_push}
 use Rattle.std.proofs.lemmas.Bool.{cases_eq}
 use Rattle.layout.proofs.Owners.{differ}
@@ -16,8 +16,8 @@ use Rattle.records.specs.State.{State, state}
 use Rattle.records.specs.declared.part.Part.{Part}
 use Rattle.records.specs.declared.recipe.Recipe.{Recipe}
 use Rattle.store.specs.Laws.{with_parts, with_recipe, AddsPart, RefusesPart, AddsRecipe, RefusesRecipe}
-use Rattle.store.specs.Steps.{after, part_placed, add_part, front, recipe_placed, add_recipe}
-use Rattle.store.specs.View.{Kept, RecipesStand, Stands}
+use Rattle.store.specs.Steps.{after, part_placed, front, recipe_placed}
+use Rattle.store.specs.View.{Kept, Stands}
 use Rattle.store.proofs.Beside.{BesideRecipes, beside_recipes_at_parts, beside_recipes_at_recipes, beside_recipes_count, counted}
 use Rattle.store.proofs.Tables.{table_push, at_same, at_other, when_lt, when_ge}
 

@@ -1,19 +1,17 @@
 -- A total that is put: the lists that are kept stay.
-use Rattle.std.proofs.Common.{◌≡◌, ℕ, ◌+◌, ◌<◌, ◌≤◌, cond, eqb, ◌⊎◌, List, length, sym, refl, ap, ◌∙◌, inl, inr, arith}
+use Rattle.std.proofs.Common.{◌≡◌, cond, eqb, ◌⊎◌, sym, refl, ap, ◌∙◌, inl, inr, arith}
 use Rattle.std.proofs.lemmas.Bool.{cases_eq, cond-true, cond-false, eq-eqb, ne_eqb}
 use Rattle.layout.proofs.Owners.{differ}
 use Rattle.layout.proofs.Placed.{only_none}
-use Rattle.layout.specs.Layout.{Good, total_at}
+use Rattle.layout.specs.Layout.{total_at}
 use Rattle.layout.specs.Words.{totals}
 use Rattle.layout.specs.declared.head.Total.{Total}
 use Rattle.layout.specs.declared.head.Total.TheVariants.{Documents, Booked, Worth}
-use Rattle.layout.specs.declared.limits.Limits.{Limits}
 use Rattle.memory.proofs.Head.{total_same, total_other, total_within}
 use Rattle.memory.specs.Books.{total_of, put_total}
 use Rattle.memory.specs.Slots.{Within}
 use Rattle.records.specs.State.{State, state}
-use Rattle.store.specs.Laws.{with_total, PutsTotal}
-use Rattle.store.specs.View.{Kept, Stands}
+use Rattle.store.specs.Laws.{PutsTotal}
 use Rattle.store.proofs.Kept.{lots_kept, orders_kept, entries_kept, recipes_kept}
 
 -- totals that lie at one place are one

@@ -5,7 +5,7 @@ use Rattle.layout.specs.declared.head.Total.{Total}
 use Rattle.layout.specs.declared.limits.Limits.{Limits}
 use Rattle.links.specs.Model.{first}
 use Rattle.links.specs.Rows.{nth}
-use Rattle.memory.specs.Books.{count_of, put_order, lot_record, entry_record, put_total}
+use Rattle.memory.specs.Books.{put_order, lot_record, entry_record, put_total}
 use Rattle.memory.specs.Slots.{Roomy}
 use Rattle.memory.specs.Opened.{opened}
 use Rattle.records.specs.Kinds.{order_kind}

@@ -5,7 +5,7 @@ use Rattle.layout.specs.declared.head.Counter.TheVariants.{Orders, Entries, Part
 use Rattle.layout.specs.declared.limits.Limits.{Limits}
 use Rattle.links.specs.Area.{header_of, tail_in, following_in, nth_in, inserted, removed}
 use Rattle.links.specs.declared.shape.Shape.{Shape}
-use Rattle.memory.specs.Books.{count_of, put_count, order_record, put_order, lot_record, put_lot, entry_record, put_entry, put_part, put_recipe}
+use Rattle.memory.specs.Books.{count_of, put_count, put_order, lot_record, put_lot, entry_record, put_entry, put_part, put_recipe}
 use Rattle.records.specs.State.{State, state}
 use Rattle.records.specs.declared.entry.Entry.{Entry}
 use Rattle.records.specs.declared.lot.Lot.{Lot}

@@ -1,5 +1,5 @@
 -- Every answer on memory of small words has numbers that its bytes can carry. Assumes nothing.
-use Rattle.std.proofs.Common.{◌≡◌, ℕ, zero, suc, ◌+◌, ◌*◌, ◌/◌, ◌%◌, ◌^◌, ◌<◌, ◌≤◌, Bool, true, cond, ◌&&◌, eqb, ltb, leb, List, [], ◌∷◌, ◌++◌, length, get_or, Some, None, Ok, Err, Option, Result, refl, arith}
+use Rattle.std.proofs.Common.{◌≡◌, ℕ, zero, suc, ◌+◌, ◌*◌, ◌/◌, ◌%◌, ◌^◌, ◌<◌, true, cond, eqb, ltb, leb, List, [], ◌∷◌, ◌++◌, length, get_or, Some, None, Ok, Err, Option, Result, refl, arith}
 use Rattle.std.proofs.lemmas.Bool.{cond_both, and_from, and_parts, lt-ltb}
 use Rattle.firm.specs.Stock as stock
 use Rattle.firm.specs.Calls.{Call, Answer, refused, number, two, lots, field, readable}
@@ -23,9 +23,9 @@ use Rattle.records.specs.declared.balance.Balance.{Balance}
 use Rattle.records.specs.declared.lot.Lot.{Lot}
 use Rattle.records.specs.declared.order.Order.{Order}
 use Rattle.records.specs.declared.stock.Stock.{Stock}
-use Rattle.rules.specs.Buying.{new_order, buys_fields, added, bought}
+use Rattle.rules.specs.Buying.{new_order, buys_fields, added}
 use Rattle.rules.specs.Checks.{in_time}
-use Rattle.rules.specs.Outcome.{Outcome, outcome, refuse}
+use Rattle.rules.specs.Outcome.{Outcome, refuse}
 use Rattle.rules.specs.Receiving.{comes_fits, new_lot, placed, stored}
 use Rattle.session.specs.Calling.{done}
 use Rattle.session.specs.Means.{Sized}

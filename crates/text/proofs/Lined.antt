@@ -1,5 +1,5 @@
 -- One line: what its call does to memory that stands for a firm, and what is written. Assumes nothing.
-use Rattle.std.proofs.Common.{◌≡◌, ℕ, ◌+◌, ◌-◌, ◌<◌, ◌≤◌, true, false, List, [], ◌∷◌, ◌++◌, length, take, drop, Some, None, Option, sym, refl, ap, ◌∙◌, subst, append_assoc, append-nil, arith, length-append}
+use Rattle.std.proofs.Common.{◌≡◌, ℕ, ◌<◌, ◌≤◌, true, false, List, [], ◌∷◌, ◌++◌, length, take, drop, Some, None, Option, sym, ap, ◌∙◌, subst, append_assoc, append-nil, arith, length-append}
 use Rattle.std.proofs.lemmas.List.{take_at}
 use Rattle.std.proofs.lemmas.Bool.{cond-true, cond-false}
 use Rattle.fields.specs.Written.{over}
@@ -7,8 +7,8 @@ use Rattle.firm.specs.Firm.{Firm}
 use Rattle.firm.specs.Calls.{Call, Answer, Limits, refused, garbled}
 use Rattle.firm.specs.Answers.{after, answer, answers, ran}
 use Rattle.records.specs.State.{State}
-use Rattle.session.specs.Calling.{Called, called_of, called}
-use Rattle.session.specs.Means.{limits_of, Means}
+use Rattle.session.specs.Calling.{called_of, called}
+use Rattle.session.specs.Means.{limits_of}
 use Rattle.session.proofs.Asking.{garbled_done}
 use Rattle.session.proofs.Called.{Answered, called_means}
 use Rattle.session.proofs.Keeping.{done_means, reached_after}

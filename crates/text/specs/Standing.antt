@@ -1,5 +1,5 @@
 -- Memory that stands for a firm while a text is answered, and what one line does to it. Definitions only: nothing is assumed.
-use Rattle.std.specs.Prelude.{◌≡◌, ℕ, ◌≤◌, List, ◌++◌, length}
+use Rattle.std.specs.Prelude.{◌≡◌, ℕ, ◌≤◌, List, ◌++◌}
 use Rattle.firm.specs.Firm.{Firm}
 use Rattle.firm.specs.Calls.{Call, Limits}
 use Rattle.firm.specs.Answers.{after, answer, answers, ran}

@@ -1,10 +1,10 @@
 -- Reading what was written gives the same answer, and what is read as an answer is what is written of it. Assumes nothing.
-use Rattle.std.proofs.Common.{◌≡◌, ℕ, zero, suc, ◌+◌, ◌*◌, ◌<◌, ◌≤◌, Bool, true, false, cond, ◌&&◌, eqb, ltb, leb, List, [], ◌∷◌, ◌++◌, length, get_or, take, drop, Some, None, Option, sym, refl, ap, ◌∙◌, subst, ⊎_elim, arith, length-append, length-drop, take-append-drop}
+use Rattle.std.proofs.Common.{◌≡◌, ℕ, zero, suc, ◌+◌, ◌*◌, ◌<◌, ◌≤◌, Bool, true, false, cond, ◌&&◌, eqb, leb, List, [], ◌∷◌, ◌++◌, length, get_or, take, drop, Some, None, sym, refl, ap, ◌∙◌, subst, ⊎_elim, arith, length-drop, take-append-drop}
 use Rattle.std.specs.List.{flat_map}
 use Rattle.std.proofs.lemmas.List.{get_or_past, drop_more, drop-drop, append-nil}
-use Rattle.std.proofs.lemmas.Bool.{cond-true, cond-false, eq-eqb, eqb-true, leb-true, lt-ltb, and_parts, and_from, cases_Bool, cases_lt}
+use Rattle.std.proofs.lemmas.Bool.{cond-true, eq-eqb, eqb-true, leb-true, and_parts, and_from, cases_lt}
 use Rattle.fields.specs.Bytes.{Bytes, value, digits, field_bytes, field_at, all_fields}
-use Rattle.fields.proofs.Numbers.{value_digits, length_fields, field_back, field_lt, bytes_drop}
+use Rattle.fields.proofs.Numbers.{value_digits, field_back, bytes_drop}
 use Rattle.firm.specs.Stock.{Lot}
 use Rattle.firm.specs.Ledger.{Entry}
 use Rattle.firm.specs.Calls as firm

@@ -1,13 +1,12 @@
 -- Reading what was written gives the same call. Assumes nothing.
-use Rattle.std.proofs.Common.{◌≡◌, ℕ, suc, ◌+◌, ◌*◌, ◌<◌, ◌≤◌, Bool, true, cond, ◌&&◌, eqb, ltb, List, [], ◌∷◌, ◌++◌, length, get_or, drop, sym, refl, ap, ◌∙◌, arith, length-append}
+use Rattle.std.proofs.Common.{◌≡◌, ℕ, ◌+◌, ◌*◌, true, ◌&&◌, eqb, ltb, List, [], ◌∷◌, length, sym, ap, ◌∙◌, arith}
 use Rattle.std.specs.List.{flat_map}
-use Rattle.std.proofs.lemmas.Bool.{cond-true, eq-eqb, ltb-true, and_parts}
+use Rattle.std.proofs.lemmas.Bool.{cond-true, eq-eqb, and_parts}
 use Rattle.fields.specs.Bytes.{value, digits, field_bytes, field_at, all_fields, sized}
-use Rattle.fields.proofs.Numbers.{value_digits, length_fields}
 use Rattle.firm.specs.Stock.{Part}
 use Rattle.firm.specs.Calls.{Call, buys, sells, comes, goes, billed_by, bills, pays_out, pays_in, made_of, makes, counted, stock_of, account, order, lots_of, entries_from, garbled, call_number, readable, readable_parts, field}
 use Rattle.wire.specs.Rows.{rows, part_in, part_bytes}
-use Rattle.wire.specs.Calls.{Form, one, two, three, size, built, or_garbled, Sendable, bytes_of_call, call_of}
+use Rattle.wire.specs.Calls.{one, two, three, built, or_garbled, bytes_of_call, call_of}
 use Rattle.wire.specs.Statements.{CallComesBack, CallsApart}
 use Rattle.wire.proofs.ReadBack.{field_same, parts_same, length_parts}
 

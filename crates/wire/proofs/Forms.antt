@@ -1,14 +1,14 @@
 -- The table of forms against the bytes of calls, and rows that are just as long as their form asks. Assumes nothing.
-use Rattle.std.proofs.Common.{◌≡◌, ℕ, zero, suc, ◌+◌, ◌*◌, ◌<◌, ◌≤◌, Bool, true, ◌&&◌, ltb, List, [], ◌∷◌, ◌++◌, length, get_or, take, drop, sym, refl, ap, ◌∙◌, subst, arith, length-drop, take-append-drop}
+use Rattle.std.proofs.Common.{◌≡◌, ℕ, zero, suc, ◌+◌, ◌*◌, ◌<◌, ◌≤◌, true, ◌&&◌, ltb, List, [], ◌∷◌, ◌++◌, length, get_or, take, drop, refl, ap, ◌∙◌, subst, arith, length-drop, take-append-drop}
 use Rattle.std.specs.List.{flat_map}
-use Rattle.std.proofs.lemmas.List.{take_all, drop_more, drop-drop, get_or-take, get_or_append_left}
+use Rattle.std.proofs.lemmas.List.{take_all, drop_more, drop-drop}
 use Rattle.std.proofs.lemmas.Bool.{lt-ltb, and_from}
 use Rattle.fields.specs.Bytes.{Bytes, field_bytes, field_at, all_fields}
 use Rattle.fields.proofs.Numbers.{field_back, field_lt, fields_from, fields_back, bytes_drop}
 use Rattle.firm.specs.Stock.{Part}
-use Rattle.firm.specs.Calls.{Call, field, readable, readable_parts, call_number}
+use Rattle.firm.specs.Calls.{field, readable, readable_parts, call_number}
 use Rattle.wire.specs.Rows.{rows, part_in, part_bytes}
-use Rattle.wire.specs.Calls.{Form, one, two, three, recipe, none, forms, size, built, bytes_of_call, Sendable}
+use Rattle.wire.specs.Calls.{Form, one, two, three, recipe, none, forms, size, built, bytes_of_call}
 use Rattle.wire.specs.Statements.{IsCall}
 use Rattle.wire.proofs.Tables.{EachAt, found}
 use Rattle.wire.proofs.RowLaws.{length_rows, parts_again}

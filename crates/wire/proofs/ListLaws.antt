@@ -1,13 +1,10 @@
 -- Lists that are written line by line, and how long answers are. Assumes nothing.
-use Rattle.std.proofs.Common.{◌≡◌, ℕ, suc, ◌+◌, ◌*◌, ◌<◌, ◌≤◌, List, [], ◌∷◌, ◌++◌, map, length, Some, None, Option, sym, refl, ap, ◌∙◌, subst, append_assoc, arith, length-append}
+use Rattle.std.proofs.Common.{◌≡◌, ℕ, suc, ◌+◌, ◌*◌, ◌≤◌, List, [], ◌∷◌, ◌++◌, map, length, Some, sym, refl, ap, ◌∙◌, append_assoc, arith, length-append}
 use Rattle.std.specs.List.{flat_map}
 use Rattle.std.proofs.lemmas.List.{append-nil, flat_map_more, length_push}
-use Rattle.fields.specs.Bytes.{all_fields}
 use Rattle.fields.specs.Written.{Written, wrote, written, over, line_put}
 use Rattle.fields.proofs.Numbers.{length_fields}
 use Rattle.fields.proofs.Rows.{fits, line_over}
-use Rattle.firm.specs.Stock.{Lot}
-use Rattle.firm.specs.Ledger.{Entry}
 use Rattle.firm.specs.Calls as firm
 use Rattle.wire.specs.Rows.{lot_bytes, entry_bytes}
 use Rattle.wire.specs.Answers.{list_head, bytes_of_answer}

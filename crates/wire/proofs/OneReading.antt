@@ -1,14 +1,14 @@
 -- Every row of bytes is just one call, or ceases to be one at just one place. Assumes nothing.
-use Rattle.std.proofs.Common.{◌≡◌, ℕ, zero, suc, ◌+◌, ◌-◌, ◌*◌, ◌<◌, ◌≤◌, min, Bool, true, false, cond, eqb, ◌⊎◌, List, [], ◌∷◌, ◌++◌, length, get_or, take, drop, replicate, Ok, Err, Result, sym, refl, ap, ◌∙◌, inl, inr, ⊎_elim, append_assoc, arith, length-append, take-append-drop}
+use Rattle.std.proofs.Common.{◌≡◌, ℕ, suc, ◌+◌, ◌-◌, ◌<◌, ◌≤◌, min, eqb, ◌⊎◌, List, [], ◌∷◌, ◌++◌, length, get_or, take, drop, replicate, sym, refl, ap, ◌∙◌, inl, inr, ⊎_elim, append_assoc, arith, length-append, take-append-drop}
 use Rattle.std.proofs.lemmas.List.{take_all, take-take, length-take-le, length-replicate, get_or-take, get_or_past, get_or_append_left, get_or-append_right, get_or-replicate, append-nil}
-use Rattle.std.proofs.lemmas.Bool.{cond-true, cond-false, ne_eqb, cases_lt, cases_order, eq-eqb}
-use Rattle.fields.specs.Bytes.{Bytes, sized}
+use Rattle.std.proofs.lemmas.Bool.{cond-false, ne_eqb, cases_lt, cases_order}
+use Rattle.fields.specs.Bytes.{Bytes}
 use Rattle.fields.proofs.Numbers.{bytes_take}
 use Rattle.firm.specs.Calls.{Call, buys, garbled, call_number, readable}
 use Rattle.wire.specs.Calls.{Form, none, forms, size, built, or_garbled, bytes_of_call, call_of, Sendable}
 use Rattle.wire.specs.Statements.{IsCall, Begins, Ceases, OneReading}
 use Rattle.wire.proofs.CallLaws.{comes_back}
-use Rattle.wire.proofs.Forms.{Right, right, whole, size_ge, size_same}
+use Rattle.wire.proofs.Forms.{right, whole, size_ge, size_same}
 
 abbrev form : List ℕ → Form
 form bs = get_or forms (get_or bs 0 0) none

@@ -1,9 +1,9 @@
 -- Fields and rows that were written read the same. Assumes nothing.
-use Rattle.std.proofs.Common.{◌≡◌, ℕ, suc, ◌+◌, ◌*◌, ◌<◌, ◌≤◌, Bool, true, ◌&&◌, ltb, List, [], ◌∷◌, ◌++◌, length, drop, sym, refl, ap, ◌∙◌, mul-suc, arith, length-append}
+use Rattle.std.proofs.Common.{◌≡◌, ℕ, ◌*◌, Bool, true, ◌&&◌, List, [], ◌∷◌, ◌++◌, length, drop, sym, refl, ap, ◌∙◌, mul-suc, arith, length-append}
 use Rattle.std.specs.List.{flat_map}
 use Rattle.std.proofs.lemmas.List.{drop_at}
 use Rattle.std.proofs.lemmas.Bool.{ltb-true, and_parts}
-use Rattle.fields.specs.Bytes.{value, digits, field_bytes, field_at, all_fields}
+use Rattle.fields.specs.Bytes.{value, digits, field_bytes, field_at}
 use Rattle.fields.proofs.Numbers.{value_digits, length_fields}
 use Rattle.firm.specs.Stock.{Part, Lot}
 use Rattle.firm.specs.Ledger.{Entry}

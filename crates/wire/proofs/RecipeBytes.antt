@@ -1,10 +1,10 @@
 -- A recipe's bytes. Assumes nothing.
-use Rattle.std.proofs.Common.{◌≡◌, ℕ, suc, ◌+◌, ◌*◌, ◌/◌, ◌%◌, ◌<◌, ◌≤◌, min, Bool, true, cond, ◌&&◌, eqb, ltb, leb, List, [], ◌∷◌, ◌++◌, length, get_or, drop, set, Some, None, Ok, Err, Option, Result, sym, refl, ap, ◌∙◌, append_assoc, arith, length-append, length-drop}
-use Rattle.std.proofs.lemmas.Bool.{cond-true, eq-eqb, lt-ltb, le-leb, and_from}
-use Rattle.fields.specs.Bytes.{field_at, sized}
+use Rattle.std.proofs.Common.{◌≡◌, ℕ, suc, ◌+◌, ◌*◌, ◌/◌, ◌%◌, ◌<◌, ◌≤◌, true, cond, eqb, List, [], ◌∷◌, ◌++◌, length, get_or, drop, set, Some, None, Option, sym, refl, ap, ◌∙◌, append_assoc, arith, length-append, length-drop}
+use Rattle.std.proofs.lemmas.Bool.{cond-true, eq-eqb, lt-ltb, and_from}
+use Rattle.fields.specs.Bytes.{field_at}
 use Rattle.firm.specs.Calls.{Call, made_of, garbled}
 use Rattle.wire.specs.Rows.{rows, part_in}
-use Rattle.wire.specs.Calls.{call_as, call_of, size, recipe, or_garbled}
+use Rattle.wire.specs.Calls.{call_as, call_of, or_garbled}
 use Rattle.wire.specs.Calls.{bytes_of_call}
 use Rattle.wire.specs.Said.{parts_in, are_parts}
 use Rattle.std.specs.List.{flat_map}

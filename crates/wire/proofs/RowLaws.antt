@@ -1,13 +1,12 @@
 -- Rows of fields: how many there are, the k-th, and that reading and writing undo each other. Assumes nothing.
-use Rattle.std.proofs.Common.{◌≡◌, ℕ, zero, suc, ◌+◌, ◌*◌, ◌/◌, ◌<◌, ◌≤◌, Bool, true, false, cond, ltb, List, [], ◌∷◌, ◌++◌, length, take, drop, Some, None, Option, sym, refl, ap, ◌∙◌, ⊎_elim, mul-suc, arith, length-drop, take-append-drop}
+use Rattle.std.proofs.Common.{◌≡◌, ℕ, zero, suc, ◌+◌, ◌*◌, ◌/◌, ◌<◌, ◌≤◌, Bool, true, false, cond, ltb, List, ◌++◌, length, take, drop, Some, None, Option, sym, refl, ap, ◌∙◌, ⊎_elim, mul-suc, arith, length-drop, take-append-drop}
 use Rattle.std.specs.Option.{option_map}
 use Rattle.std.specs.List.{flat_map}
-use Rattle.std.proofs.lemmas.List.{drop-drop, drop_at, nil_from_length, length-append}
+use Rattle.std.proofs.lemmas.List.{drop-drop, nil_from_length}
 use Rattle.std.proofs.lemmas.Bool.{cond-true, cond-false, lt-ltb, le-ltb, cases_lt}
-use Rattle.fields.specs.Bytes.{Bytes, value, digits, field_bytes, field_at, all_fields, nth_row}
-use Rattle.fields.proofs.Numbers.{value_digits, bytes_drop, fields_back, length_fields}
-use Rattle.firm.specs.Stock.{Lot, Part}
-use Rattle.firm.specs.Ledger.{Entry}
+use Rattle.fields.specs.Bytes.{Bytes, value, field_at, nth_row}
+use Rattle.fields.proofs.Numbers.{bytes_drop, fields_back}
+use Rattle.firm.specs.Stock.{Part}
 use Rattle.wire.specs.Said.{parts_in}
 use Rattle.wire.specs.Rows.{rows, nth, part_in, part_bytes, lot_in, lot_bytes, entry_in, entry_bytes}
 

@@ -1,4 +1,4 @@
-use Rattle.std.proofs.Common.{suc, [], ◌∷◌, refl, ap, arith}
+use Rattle.std.proofs.Common.{suc, [], ◌∷◌, ap, arith}
 use Rattle.fields.specs.Bytes.{all_fields}
 use Rattle.fields.proofs.Numbers.{length_fields}
 use Rattle.fields.proofs.Rows.{too_long, put_one}

@@ -3,9 +3,7 @@ use Rattle.fields.specs.Written.{Written, line_put}
 use Rattle.firm.specs.Stock.{Lot}
 use Rattle.links.specs.declared.shape.Shape.{Shape}
 use Rattle.records.specs.State.{state}
-use Rattle.memory.specs.Books.{lot_record}
 use Rattle.wire.specs.Rows.{lot_bytes}
-use Rattle.wire.specs.Told.{lot_told}
 use Rattle.questions.specs.Listing.{lot_of}
 use Rattle.questions.proofs.Listed.{listed_begins, listed_turns, listed_stops, listed_ends}
 use Rattle.questions.proofs.listing.put_lots.Goals as goal

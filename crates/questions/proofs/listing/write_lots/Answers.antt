@@ -1,4 +1,4 @@
-use Rattle.std.proofs.Common.{◌≤◌, length, ap, ◌∙◌, arith}
+use Rattle.std.proofs.Common.{◌≤◌, length, ap, arith}
 use Rattle.fields.specs.Written.{Written}
 use Rattle.layout.specs.Layout.{answer_need}
 use Rattle.records.specs.State.{state}

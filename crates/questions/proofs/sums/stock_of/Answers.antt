@@ -1,4 +1,4 @@
-use Rattle.std.proofs.Common.{◌-◌, sym, ap, ◌∙◌, arith}
+use Rattle.std.proofs.Common.{◌-◌, sym, ap, ◌∙◌}
 use Rattle.layout.specs.Layout.{lot_rows}
 use Rattle.records.specs.State.{state}
 use Rattle.questions.specs.Sums.{plus, stock_step, stock_of}

@@ -1,6 +1,5 @@
-use Rattle.std.proofs.Common.{◌≡◌, ℕ, ◌+◌, ◌*◌, ◌≤◌, true, cond, ltb, leb, List, length, Some, None, sym, ap, ◌∙◌, subst, arith}
+use Rattle.std.proofs.Common.{ℕ, ◌≤◌, ltb, leb, length, sym, ap, ◌∙◌, subst, arith}
 use Rattle.std.proofs.lemmas.Bool.{cond-true, le-leb}
-use Rattle.fields.specs.Written.{wrote, written}
 use Rattle.firm.specs.Calls.{Answer, lots}
 use Rattle.layout.specs.Layout.{answer_need}
 use Rattle.questions.specs.Listing.{lots_met}

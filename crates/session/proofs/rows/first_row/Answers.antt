@@ -1,4 +1,4 @@
-use Rattle.std.proofs.Common.{◌≡◌, ◌-◌, length, sym, refl, ◌∙◌, inl, inr, arith}
+use Rattle.std.proofs.Common.{◌≡◌, ◌-◌, length, refl, ◌∙◌, inl, inr, arith}
 use Rattle.session.proofs.Framing.{Cut, cut_short, cut_short_less, cut_rows, cut_rows_less, leading_some, leading_none}
 use Rattle.session.proofs.rows.first_row.Goals as goal
 use Rattle.session.proofs.rows.first_row.Goals.{then-size-body, else-size-body}

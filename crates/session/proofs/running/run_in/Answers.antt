@@ -1,4 +1,4 @@
-use Rattle.std.proofs.Common.{◌≡◌, ℕ, ◌≤◌, List, length, vec_items, sym, ap, ◌∙◌, subst, arith}
+use Rattle.std.proofs.Common.{◌≡◌, ◌≤◌, length, vec_items, sym, ap, ◌∙◌, subst, arith}
 use Rattle.layout.specs.Layout.{Good, answer_need}
 use Rattle.layout.specs.declared.limits.Limits.{Limits}
 use Rattle.memory.specs.Books.{limits_in}

@@ -1,4 +1,4 @@
-use Rattle.std.proofs.Common.{◌≡◌, ◌^◌, ◌<◌, [], ◌∷◌, ◌++◌, length, vec_items, sym, refl, ap, ◌∙◌, subst, ap₂, arith}
+use Rattle.std.proofs.Common.{◌^◌, ◌<◌, [], ◌∷◌, ◌++◌, length, vec_items, sym, refl, ap, ◌∙◌, subst, ap₂, arith}
 use Rattle.records.specs.State.{State, state}
 use Rattle.call_lines.specs.Lines.{call_or_place, call_in_line}
 use Rattle.text.specs.Standing.{CallsDone}

@@ -1,6 +1,5 @@
-use Rattle.std.proofs.Common.{◌≡◌, ℕ, ◌+◌, ◌-◌, ◌*◌, ◌/◌, ◌<◌, List, length, set, ap, arith}
+use Rattle.std.proofs.Common.{ℕ, ◌+◌, ◌-◌, ◌/◌, List, length, set, ap, arith}
 use borrow.Rule.Slice.PartMut.{put_mid}
-use Rattle.fields.specs.Bytes.{Bytes}
 use Rattle.wire.proofs.RecipeBytes.{recipe_too_long, recipe_fits}
 use Rattle.wire.proofs.Heads.{head_goes_in}
 use Rattle.wire.proofs.recipe.write_recipe.Goals as goal
