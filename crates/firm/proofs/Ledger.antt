@@ -1,7 +1,7 @@
 -- The two sides of the accounts, and what lots cost, over lists put together. Assumes nothing.
 use Rattle.std.proofs.Common.{◌≡◌, ℕ, ◌+◌, eqb, List, [], ◌∷◌, ◌++◌, sym, refl, arith}
 use Rattle.std.proofs.lemmas.Bool.{eqb-true}
-use Rattle.firm.specs.Stock.{pick, Lot, on_hand, all_worth}
+use Rattle.firm.specs.Stock.{pick, Lot, on_hand, worth, all_worth}
 use Rattle.firm.specs.Ledger.{Entry, entry, left_side, right_side}
 use Rattle.firm.proofs.Picks.{pick-both, pick_same}
 use Rattle.firm.proofs.Sums.{Sums, sum_append, sum_push}
@@ -22,6 +22,10 @@ pub on_hand_sums : (i : ℕ) → Sums (λ (l : Lot). pick (eqb l.item i) l.piece
 unfolding on_hand
 on_hand_sums i = record { none = refl; more = λ l ls. refl }
 
+pub item_worth_sums : (i : ℕ) → Sums (λ (l : Lot). pick (eqb l.item i) l.cost 0) (λ ls. worth ls i)
+unfolding worth
+item_worth_sums i = record { none = refl; more = λ l ls. refl }
+
 pub left_append : (xs ys : List Entry) (a : ℕ) → left_side (xs ++ ys) a ≡ left_side xs a + left_side ys a
 left_append xs ys a = sum_append (left_sums a) xs ys
 
@@ -33,6 +37,9 @@ worth_push ls l = sum_push worth_sums ls l
 
 pub on_hand_push : (ls : List Lot) (l : Lot) (i : ℕ) → on_hand (ls ++ (l ∷ [])) i ≡ on_hand ls i + pick (eqb l.item i) l.pieces 0
 on_hand_push ls l i = sum_push (on_hand_sums i) ls l
+
+pub item_worth_push : (ls : List Lot) (l : Lot) (i : ℕ) → worth (ls ++ (l ∷ [])) i ≡ worth ls i + pick (eqb l.item i) l.cost 0
+item_worth_push ls l i = sum_push (item_worth_sums i) ls l
 
 -- an entry counts on its accounts alone, also where it is of nothing and not made
 pub left_entry : (l r x d a : ℕ) → left_side (entry l r x d) a ≡ pick (eqb l a) x 0

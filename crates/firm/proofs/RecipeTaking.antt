@@ -1,21 +1,17 @@
 -- Taking what a recipe asks for: no piece and no cent is lost, of any item, and all that is taken is of the recipe's items. Assumes nothing.
-use Rattle.std.proofs.Common.{◌≡◌, ℕ, ◌+◌, ◌-◌, ◌*◌, ◌/◌, Bool, true, false, ◌||◌, eqb, ◌≢◌, List, [], ◌∷◌, ◌++◌, sym, refl, ◌∙◌, subst, inl, inr, arith}
+use Rattle.std.proofs.Common.{◌≡◌, ℕ, ◌+◌, ◌-◌, ◌*◌, ◌/◌, Bool, true, false, ◌&&◌, ◌||◌, eqb, ◌≢◌, List, [], ◌∷◌, ◌++◌, sym, refl, ap, ◌∙◌, subst, inl, inr, arith}
 use Rattle.std.proofs.lemmas.Bool.{cases_eq, and_parts, and_from, eq-eqb}
-use Rattle.firm.specs.Stock.{pick, Lot, Taken, take, on_hand, worth, all_worth, Part, take_all}
+use Rattle.firm.specs.Stock.{Lot, Taken, take, on_hand, worth, all_worth, Part, take_all}
 use Rattle.firm.specs.Statements.{all_pieces, asked, in_recipe, all_in_recipe, RecipeTakingKeeps}
 use Rattle.firm.proofs.Picks.{counts, counts_not}
 use Rattle.firm.proofs.Cases.{take_cases}
 use Rattle.firm.proofs.Sums.{Sums, sum_append}
 use Rattle.firm.proofs.Taking.{take_keeps, share_le}
-use Rattle.firm.proofs.Ledger.{worth_sums, on_hand_sums}
+use Rattle.firm.proofs.Ledger.{worth_sums, on_hand_sums, item_worth_sums}
 
 pieces_sums : Sums (λ (l : Lot). l.pieces) all_pieces
 unfolding all_pieces
 pieces_sums = record { none = refl; more = λ l ls. refl }
-
-item_worth_sums : (i : ℕ) → Sums (λ (l : Lot). pick (eqb l.item i) l.cost 0) (λ ls. worth ls i)
-unfolding worth
-item_worth_sums i = record { none = refl; more = λ l ls. refl }
 
 -- ONE ITEM. What is taken is of it alone
 abbrev AllOf : ℕ → List Lot → Type 0

@@ -5,5 +5,5 @@
 mod listing;
 mod sums;
 
-pub use listing::write_lots;
+pub use listing::{line, write_lots};
 pub use sums::{sides_of, stock_of};

@@ -19,7 +19,8 @@ const HEAD: usize = 9;
 /// The bytes of a line.
 const LINE: usize = 32;
 
-fn line(lot: Lot) -> LotLine
+/// A lot as a line of an answer.
+pub fn line(lot: Lot) -> LotLine
     ensures { lot_told result ≡ lot_of lot }
 {
     LotLine {

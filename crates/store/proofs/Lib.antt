@@ -4,6 +4,7 @@ pub mod Beside
 pub mod Tables
 pub mod LotSteps
 pub mod LotLaws
+pub mod OldestLot
 pub mod OrderLaws
 pub mod EntryLaws
 pub mod RecipeLaws

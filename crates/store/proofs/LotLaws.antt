@@ -29,10 +29,10 @@ use Rattle.store.proofs.LotSteps.{moved_in_rows, moved_in_only, moved_out_rows, 
 use Rattle.store.proofs.Tables.{at_same, at_other, when_lt}
 
 -- all but the lots
-beside : (l : Limits) (s : State) (b : Kept) → Stands l s b → BesideLots l s b
+pub beside : (l : Limits) (s : State) (b : Kept) → Stands l s b → BesideLots l s b
 beside l s b st = record { frame = st.frame; orders = st.orders; entries = st.entries; recipes = st.recipes }
 
-joined : (l : Limits) (s : State) (b : Kept) (i : ℕ) (xs : List Lot) (n : ℕ) → BesideLots l s b → LotsStand l s (with_lots i xs n b).lots_of n → Stands l s (with_lots i xs n b)
+pub joined : (l : Limits) (s : State) (b : Kept) (i : ℕ) (xs : List Lot) (n : ℕ) → BesideLots l s b → LotsStand l s (with_lots i xs n b).lots_of n → Stands l s (with_lots i xs n b)
 joined l s b i xs n rest h = record { frame = rest.frame; lots = h; orders = rest.orders; entries = rest.entries; recipes = rest.recipes }
 
 -- A LOT COMES, on the first free cell c
@@ -195,7 +195,7 @@ module _ (l : Limits) (s : State) (b : Kept) (i : ℕ) (xs : List Lot) (good : G
       ∙ omega (arith, ap length (get_or-set_other g i l.items rest [] (λ e. omega arith)))
 
   -- one lot at the least is in use
-  some : length (row g l.items) + 1 ≤ l.lots
+  pub some : length (row g l.items) + 1 ≤ l.lots
   some =
       omega (
         arith,
@@ -207,7 +207,7 @@ module _ (l : Limits) (s : State) (b : Kept) (i : ℕ) (xs : List Lot) (good : G
         end_is (lot_rows l) s.narrow,
       )
 
-  lot_goes : Stands l (state s.wide (lot_freed l i c s.narrow)) (with_lots i xs (b.lots_used - 1) b)
+  pub lot_goes : Stands l (state s.wide (lot_freed l i c s.narrow)) (with_lots i xs (b.lots_used - 1) b)
   unfolding lot_freed
   lot_goes =
       joined l t₂ b i xs (b.lots_used - 1) (beside_lots_count l t₁ b (count_of Lots s.narrow - 1) good (beside_lots_at_lot_links l s t₁ b good v₁ (beside l s b st)))

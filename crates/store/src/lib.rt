@@ -15,7 +15,7 @@ mod refusal;
 
 pub use entries::{add_entry, entry_after, first_entry, nth_entry};
 use links::Shape;
-pub use lots::{add_lot, first_lot, lot_after, nth_lot, remove_lot};
+pub use lots::{add_lot, first_lot, free_lot, lot_after, nth_lot, remove_lot};
 pub use orders::{add_order, first_order, nth_order, order_after, set_order};
 pub use recipes::{add_part, add_recipe};
 pub use refusal::Refusal;

@@ -34,7 +34,8 @@ fn place_lot(wide: &mut [u64], narrow: &mut [u32], limits: Limits, cell: u32, va
     memory::put_count(narrow, Counter::Lots, count.saturating_add(1));
 }
 
-fn free_lot(narrow: &mut [u32], limits: Limits, item: u32, cell: u32)
+/// Frees the cell of an item's oldest lot, which leaves the item's row.
+pub fn free_lot(narrow: &mut [u32], limits: Limits, item: u32, cell: u32)
     ensures { narrow.new ≡ lot_freed limits item cell narrow.old }
 {
     let count = memory::count(narrow, Counter::Lots);

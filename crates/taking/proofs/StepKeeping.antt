@@ -1,0 +1,62 @@
+-- What each step of taking keeps of the slices, taking keeps, on any memory. Assumes nothing.
+use Rattle.std.proofs.Common.{◌≡◌, ℕ, zero, suc, ◌-◌, ◌<◌, cond, eqb, ltb, List, [], ◌∷◌, Some, None, Option, refl, arith}
+use Rattle.std.proofs.lemmas.Bool.{cond_both, ltb-true}
+use Rattle.layout.specs.Layout.{lot_rows}
+use Rattle.layout.specs.declared.limits.Limits.{Limits}
+use Rattle.links.specs.Area.{after_in, header_of}
+use Rattle.memory.specs.Books.{lot_record, put_lot}
+use Rattle.records.specs.State.{State, state}
+use Rattle.records.specs.declared.lot.Lot.{Lot}
+use Rattle.store.specs.Steps.{first_lot, lot_freed}
+use Rattle.taking.specs.Parts.{part_of, rest_of}
+use Rattle.taking.specs.Takes.{gave, given, on_oldest, take_oldest, Taking, taking, taken_on, most_lines, taken_each, take_all}
+use Rattle.taking.specs.declared.wants.Want.{Want}
+use Rattle.taking.proofs.Turns.{on}
+
+-- a cell is freed, or what is left of a lot takes its place
+pub record StepsKeep (l : Limits) (P : State → Type 0) : Type 0 where
+  pub frees : (i c : ℕ) (s : State) → first_lot l i s.narrow ≡ Some c → P s → P (state s.wide (lot_freed l i c s.narrow))
+  pub puts : (i c : ℕ) (s : State) (p : Lot) → first_lot l i s.narrow ≡ Some c → P s → P (put_lot l c (rest_of (lot_record l c s) p) s)
+
+module _ (l : Limits) (P : State → Type 0) (keep : StepsKeep l P) where
+  oldest_keeps : (i q : ℕ) (s : State) → P s → P (take_oldest l i q s).slices
+  unfolding take_oldest given
+  oldest_keeps i q s h = by (first_lot l i s.narrow) refl
+    where
+      by : (o : Option ℕ) → first_lot l i s.narrow ≡ o → P (on_oldest l i q s o).slices
+      by None is = h
+      by (Some c) is =
+          cond_both (eqb (part_of (lot_record l c s) q).pieces (lot_record l c s).pieces) (state s.wide (lot_freed l i c s.narrow)) (put_lot l c (rest_of (lot_record l c s) (part_of (lot_record l c s) q)) s) P
+          (λ _. keep.frees i c s is h) (λ _. keep.puts i c s (part_of (lot_record l c s) q) is h)
+
+  row_keeps : (k i q : ℕ) (s : State) → P s → P (taken_on k l i q s).slices
+  row_keeps zero i q s h = h
+  row_keeps (suc k) i q s h =
+      cond_both (eqb q 0) (taking s []) (on k l i q s (take_oldest l i q s)) (λ (t : Taking). P t.slices) (λ _. h)
+      (λ _. by (row_keeps k) (take_oldest l i q s).part (take_oldest l i q s).slices (oldest_keeps i q s h))
+    where
+      by : ((j r : ℕ) (x : State) → P x → P (taken_on k l j r x).slices) → (o : Option Lot) (x : State) → P x → P (on k l i q s (gave o x)).slices
+      by rec None x k = h
+      by rec (Some p) x k = rec i (q - p.pieces) x k
+
+  each_keeps : (ws : List Want) (n : ℕ) (s : State) → P s → P (taken_each ws l n s).slices
+  each_keeps [] n s h = h
+  each_keeps (w ∷ ws) n s h = each_keeps ws _ _ (row_keeps (most_lines l - n) w.item w.pieces s h)
+
+  pub slices_keep : (ws : List Want) (s : State) → P s → P (take_all l ws s).slices
+  unfolding take_all
+  slices_keep ws s h = each_keeps ws 0 s h
+
+-- the cell of an item's oldest lot is one of the lots'
+pub first_inside : (l : Limits) (i : ℕ) (n : List ℕ) (c : ℕ) → first_lot l i n ≡ Some c → c < l.lots
+first_inside l i n c =
+    let next : ℕ = after_in (lot_rows l) n (header_of (lot_rows l) i) in
+    cond_both (ltb i l.items) (cond (ltb next l.lots) (Some next) None) None (λ (o : Option ℕ). o ≡ Some c → c < l.lots)
+    (λ _. cond_both (ltb next l.lots) (Some next) None (λ (o : Option ℕ). o ≡ Some c → c < l.lots) (λ lt e. at next (ltb-true next l.lots lt) e) (λ _ e. no e))
+    (λ _ e. no e)
+  where
+    at : (d : ℕ) → d < l.lots → Some d ≡ Some c → c < l.lots
+    at d lt e = let same : d ≡ c = cc in omega arith
+
+    no : None ≡ Some c → c < l.lots
+    no e = let z : ◌≡◌ {A = ℕ} 0 1 = cc in absurd (omega arith)

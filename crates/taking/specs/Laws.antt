@@ -1,0 +1,90 @@
+-- What taking means for the lots of the books, on memory that stands for them. Definitions only: nothing is assumed.
+use Rattle.std.specs.Prelude.{◌≡◌, ℕ, ◌-◌, ◌^◌, ◌<◌, ◌≤◌, min, List, [], ◌∷◌, map, length}
+use Rattle.fields.specs.Written.{over}
+use Rattle.firm.specs.Stock as firm
+use Rattle.firm.specs.Stock.{take, of_item, all_worth}
+use Rattle.firm.specs.Calls.{lots}
+use Rattle.firm.specs.Laws.{AllSmall}
+use Rattle.layout.specs.Layout.{Good, answer_need}
+use Rattle.layout.specs.declared.limits.Limits.{Limits}
+use Rattle.questions.specs.Listing.{lot_of}
+use Rattle.records.specs.State.{State}
+use Rattle.records.specs.declared.lot.Lot.{Lot}
+use Rattle.store.specs.View.{Kept, Stands}
+use Rattle.wire.specs.Answers.{bytes_of_answer}
+use Rattle.taking.specs.Takes.{cost_of, Taking, most_lines, take_all, told}
+use Rattle.taking.specs.Wanted.{wanted, WantedCosts, OneItem, OneWanted, RecipeWanted}
+use Rattle.taking.specs.declared.wants.Want.{Want}
+
+-- THE LOTS of memory: each item's are the books', and there are as many
+pub record LotsMean (l : Limits) (of : ℕ → List Lot) (many : ℕ) (ls : List firm.Lot) : Type 0 where
+  pub each : (i : ℕ) → i < l.items → map lot_of (of i) ≡ of_item ls i
+  pub used : many ≡ length ls
+
+-- lots whose costs, and these by their pieces, stay in a word
+pub record Priced (ls : List firm.Lot) : Type 0 where
+  pub small : AllSmall ls
+  pub worth : all_worth ls ≤ 1000000000000
+
+-- items that there are
+abbrev pub KnownItems : Limits → List Want → Type 0
+KnownItems l [] = Unit
+KnownItems l (w ∷ ws) = (w.item < l.items) × KnownItems l ws
+
+-- other lots in place of those that are kept
+abbrev pub with_all_lots : (ℕ → List Lot) → ℕ → Kept → Kept
+with_all_lots of many b =
+    record { lots_of = of; lots_used = many; all_orders = b.all_orders; all_entries = b.all_entries; all_parts = b.all_parts; recipes = b.recipes; totals = b.totals }
+
+-- memory that stands for what it stood for, but with the lots ls
+pub record LotsLeft (l : Limits) (s : State) (b : Kept) (ls : List firm.Lot) : Type 0 where
+  pub of : ℕ → List Lot
+  pub many : ℕ
+  pub stands : Stands l s (with_all_lots of many b)
+  pub means : LotsMean l of many ls
+
+-- what pieces would cost
+abbrev pub Costs : Type 0
+Costs =
+    (l : Limits) (s : State) (b : Kept) (ls : List firm.Lot) (w : Want) → Good l → Stands l s b → LotsMean l b.lots_of b.lots_used ls → Priced ls → w.item < l.items →
+    cost_of l w s ≡ (take ls w.item w.pieces).cost
+
+-- what was taken, and what is left
+pub record Took (l : Limits) (b : Kept) (t : Taking) (r : firm.Taken) : Type 0 where
+  pub lots : LotsLeft l t.slices b r.left
+  pub parts : t.parts ≡ r.parts
+
+abbrev pub Takes : Type 0
+Takes =
+    (l : Limits) (s : State) (b : Kept) (ls : List firm.Lot) (ws : List Want) → Good l → Stands l s b → LotsMean l b.lots_of b.lots_used ls → Priced ls → KnownItems l ws → length ws ≤ 256 →
+    Took l b (take_all l ws s) (wanted ls ws)
+
+-- ON ANY MEMORY an answer has room for what was taken, and says it; where no bytes are lent, none is written
+abbrev pub TakesFew : Type 0
+TakesFew = (l : Limits) (ws : List Want) (s : State) → length (take_all l ws s).parts ≤ most_lines l
+
+abbrev pub Tells : Type 0
+Tells = (l : Limits) (ps : List firm.Lot) (old : List ℕ) → length ps ≤ most_lines l → answer_need l ≤ length old → (told ps old).answer ≡ over (bytes_of_answer (lots ps)) old
+
+abbrev pub CountsLines : Type 0
+CountsLines = (l : Limits) (ps : List firm.Lot) (old : List ℕ) → length ps ≤ most_lines l → (told ps old).taken.lines ≡ length ps
+
+abbrev pub TellsNothing : Type 0
+TellsNothing = (ps : List firm.Lot) → (told ps []).answer ≡ []
+
+-- and what parts cost together
+abbrev pub SumsCosts : Type 0
+SumsCosts = (ps : List firm.Lot) (old : List ℕ) → (told ps old).taken.cost ≡ min (2 ^ 64 - 1) (all_worth ps)
+
+pub record TakingLaws : Type 0 where
+  pub costs : Costs
+  pub takes : Takes
+  pub takes_few : TakesFew
+  pub tells : Tells
+  pub counts_lines : CountsLines
+  pub tells_nothing : TellsNothing
+  pub sums_costs : SumsCosts
+  pub wanted_costs : WantedCosts
+  pub one_item : OneItem
+  pub one_wanted : OneWanted
+  pub recipe_wanted : RecipeWanted
