@@ -8,6 +8,7 @@ mod request;
 use request::{Failed, Request};
 use std::fs;
 use std::io::{Read, Write};
+use std::process::ExitCode;
 use text::{RunError, run};
 
 const HELP: &str =
@@ -60,14 +61,14 @@ fn input(rt: &HostRuntime, request: &Request) -> Result<Vec<u8>, Failed> {
     }
 }
 
-fn main(rt: HostRuntime) -> Result<(), Failed> {
-    let request = Request::read(&rt)?;
+fn answer(rt: &HostRuntime) -> Result<(), Failed> {
+    let request = Request::read(rt)?;
     if request.help {
-        return write(&rt, HELP.as_bytes());
+        return write(rt, HELP.as_bytes());
     }
-    let text = input(&rt, &request)?;
+    let text = input(rt, &request)?;
     match run(rt.alloc(), request.limits, text.as_slice()) {
-        Ok(answers) => write(&rt, answers.as_slice()),
+        Ok(answers) => write(rt, answers.as_slice()),
         Err(RunError::OutOfMemory) => {
             let _ = eprintln!(rt; "books: not enough memory");
             Err(Failed)
@@ -76,5 +77,13 @@ fn main(rt: HostRuntime) -> Result<(), Failed> {
             let _ = eprintln!(rt; "books: limits out of range");
             Err(Failed)
         }
+    }
+}
+
+// What went wrong is said by then, in one line.
+fn main(rt: HostRuntime) -> ExitCode {
+    match answer(&rt) {
+        Ok(()) => ExitCode::SUCCESS,
+        Err(Failed) => ExitCode::FAILURE,
     }
 }
