@@ -1,5 +1,7 @@
 //! Calls and answers as bytes, written from the description of the format alone.
 
+use bench::numbers::{FIELDS, RECIPE};
+
 /// A call by its number and fields.
 #[derive(Clone, Debug, PartialEq, Eq)]
 pub enum Call {
@@ -19,10 +21,6 @@ pub enum Answer {
     Lots(Vec<[u64; 4]>),
     Entries(Vec<[u64; 4]>),
 }
-
-/// How many fields each call has; the recipe is a case of its own.
-const FIELDS: [usize; 16] = [3, 3, 2, 2, 3, 2, 1, 1, 0, 2, 2, 1, 1, 1, 1, 2];
-const RECIPE: u8 = 8;
 
 fn field(bytes: &[u8], at: usize) -> u64 {
     u64::from_le_bytes(bytes[at..at + 8].try_into().unwrap())

@@ -1,7 +1,8 @@
 //! The proved engine, through the functions that it exports to C.
 
-use crate::model::Limits;
+use bench::limits::Limits;
 
+#[link(name = "session", kind = "static")]
 unsafe extern "C" {
     fn books_wide(limits: *const u64, limits_len: usize) -> i64;
     fn books_narrow(limits: *const u64, limits_len: usize) -> i64;
@@ -45,12 +46,18 @@ impl Engine {
             narrow: vec![0; need(books_narrow)],
             answer: vec![0; need(books_answer)],
         };
-        let (wide, narrow) = (&mut engine.wide, &mut engine.narrow);
+        engine.open(limits);
+        engine
+    }
+
+    /// Opens new books in the same memory, which suffices for the limits.
+    pub fn open(&mut self, limits: &Limits) {
+        let words = limits.words();
+        let (wide, narrow) = (&mut self.wide, &mut self.narrow);
         let opened = unsafe {
             books_open(wide.as_mut_ptr(), wide.len(), narrow.as_mut_ptr(), narrow.len(), words.as_ptr(), words.len())
         };
         assert_eq!(opened, 0, "books could not be opened");
-        engine
     }
 
     /// The bytes of the answer to a call.

@@ -1,7 +1,7 @@
 //! Calls by chance, from a fixed seed.
 
 use crate::calls::{Call, bytes};
-use crate::model::Limits;
+use bench::limits::Limits;
 
 pub struct Chance(u64);
 
@@ -60,7 +60,7 @@ fn call_row(c: &mut Chance, limits: &Limits, orders: u64) -> Vec<u8> {
     let call = match c.below(22) {
         0..=3 => {
             let price = if c.one_in(12) { 1_000_000 + c.below(2) } else { c.below(500) };
-            Call::Plain(c.below(6).min(1) as u8, vec![item(c), c.pieces(200), price])
+            Call::Plain(u8::from(c.one_in(3)), vec![item(c), c.pieces(200), price])
         }
         4..=9 => Call::Plain(2, vec![order(c), c.pieces(60)]),
         10 | 11 => Call::Plain(3, vec![order(c), c.pieces(60)]),
