@@ -21,12 +21,12 @@ use Rattle.text.specs.Run.{books_limits, calls_in, calls, printed, ran}
 use Rattle.text.specs.Standing.{Standing, GoneOn, CallsDone}
 
 -- SOME CALLS AND THEN OTHERS
-answers_append : (l : Limits) (f : Firm) (cs ds : List Call) → answers l f (cs ++ ds) ≡ answers l f cs ++ answers l (firm.ran l f cs) ds
+pub answers_append : (l : Limits) (f : Firm) (cs ds : List Call) → answers l f (cs ++ ds) ≡ answers l f cs ++ answers l (firm.ran l f cs) ds
 unfolding answers firm.ran
 answers_append l f [] ds = refl
 answers_append l f (c ∷ cs) ds = ap (λ (rs : List Answer). answer l f c ∷ rs) (answers_append l (after l f c) cs ds)
 
-ran_append : (l : Limits) (f : Firm) (cs ds : List Call) → firm.ran l f (cs ++ ds) ≡ firm.ran l (firm.ran l f cs) ds
+pub ran_append : (l : Limits) (f : Firm) (cs ds : List Call) → firm.ran l f (cs ++ ds) ≡ firm.ran l (firm.ran l f cs) ds
 unfolding firm.ran
 ran_append l f [] ds = refl
 ran_append l f (c ∷ cs) ds = ran_append l (after l f c) cs ds
@@ -74,15 +74,20 @@ pub ends : (text : List ℕ) (s t : State) (room : ℕ) (rest out end : List ℕ
 ends text s t room [] out end h g = subst (λ (cs : List Call). CallsDone cs s t room out end) (sym (append-nil g.past) ∙ g.parts) g.done
 ends text s t room (c ∷ cs) out end h g = absurd (omega arith)
 
--- THE WHOLE: memory of the size that good limits ask for is opened, and what is written stands behind nothing
-pub whole : (l : layout.Limits) (text : List ℕ) (s t u : State) (o : Opening) (room : ℕ) (out end : List ℕ) → Good l → length s.wide ≡ wide_need l → length s.narrow ≡ narrow_need l →
-    room ≡ answer_need l → opening_of o t ≡ opening l s → out ≡ [] → CallsDone (calls text) t u room out end → end ≡ ran l text
-unfolding ran firm.ran
-whole l text s t u o room out end good w n a e none d =
+-- OPENED MEMORY, of the size that good limits ask for, stands for new books
+pub opens : (l : layout.Limits) (s t : State) (o : Opening) (room : ℕ) → Good l → length s.wide ≡ wide_need l → length s.narrow ≡ narrow_need l → room ≡ answer_need l → opening_of o t ≡ opening l s →
+    Standing (books_limits l) new_firm t room
+unfolding firm.ran
+opens l s t o room good w n a e =
     let is : t ≡ opened l s =
     ap (λ (x : Opened). x.left) (e ∙ cond-true (is_good l) _ _ (good_tested l good)
     ∙ cond-false (ltb (length s.wide) (wide_need l)) _ _ (le-ltb _ _ (omega arith)) ∙ cond-false (ltb (length s.narrow) (narrow_need l)) _ _ (le-ltb _ _ (omega arith))) in
-    (d (books_limits l) new_firm
-    (record { good = good; cans = refl; reached = ([], refl); means = subst (λ (x : State). Means l x new_firm) (sym is) (opened_means l s good w n); enough = omega arith })
-    ).text
+    record { good = good; cans = refl; reached = ([], refl); means = subst (λ (x : State). Means l x new_firm) (sym is) (opened_means l s good w n); enough = omega arith }
+
+-- THE WHOLE: memory of the size that good limits ask for is opened, and what is written stands behind nothing
+pub whole : (l : layout.Limits) (text : List ℕ) (s t u : State) (o : Opening) (room : ℕ) (out end : List ℕ) → Good l → length s.wide ≡ wide_need l → length s.narrow ≡ narrow_need l →
+    room ≡ answer_need l → opening_of o t ≡ opening l s → out ≡ [] → CallsDone (calls text) t u room out end → end ≡ ran l text
+unfolding ran
+whole l text s t u o room out end good w n a e none d =
+    (d (books_limits l) new_firm (opens l s t o room good w n a e)).text
     ∙ ap (λ (x : List ℕ). x ++ printed (answers (books_limits l) new_firm (calls text))) none

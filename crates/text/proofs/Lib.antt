@@ -3,3 +3,6 @@ mod Carried
 mod Sent
 mod Lined
 mod Going
+mod Noting
+mod Lending
+mod Counting

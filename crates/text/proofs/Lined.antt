@@ -25,18 +25,18 @@ use Rattle.text.specs.Standing.{Standing, GoneOn, CallDone, CallsDone}
 use Rattle.text.proofs.Carried.{carried}
 
 -- what is written over is no longer than what there is then
-over_long : (row old : List ℕ) → length row ≤ length (over row old)
+pub over_long : (row old : List ℕ) → length row ≤ length (over row old)
 unfolding over
 over_long row old = omega (arith, length-append row (drop (length row) old))
 
-take_over : (row old : List ℕ) (n : ℕ) → length row ≡ n → take n (over row old) ≡ row
+pub take_over : (row old : List ℕ) (n : ℕ) → length row ≡ n → take n (over row old) ≡ row
 unfolding over
 take_over row old n e = take_at row (drop (length row) old) n e
 
 -- what `call` returned, on memory that stands for a firm
 module _ (row old bytes : List ℕ) (s t : State) (r : Option ℕ) (is : called_of r t bytes ≡ called (call_of row) s old) where
   module _ (l : Limits) (f : Firm) (c : Call) (h : Standing l f s (length old)) (send : Sendable c) (e : row ≡ bytes_of_call c) where
-    means : Answered l f c old (called_of r t bytes)
+    pub means : Answered l f c old (called_of r t bytes)
     means =
         subst (Answered l f c old) (sym (is ∙ ap (λ (d : Call). called d s old) (ap call_of e ∙ comes_back c send)))
         (called_means l s f c old h.good h.cans h.reached h.means h.enough)
@@ -44,7 +44,7 @@ module _ (row old bytes : List ℕ) (s t : State) (r : Option ℕ) (is : called_
     stands : Standing l (after l f c) t (length old)
     stands = record { good = h.good; cans = h.cans; reached = reached_after l f c h.reached; means = means.means; enough = h.enough }
 
-    carries_it : carries (answer l f c) ≡ true
+    pub carries_it : carries (answer l f c) ≡ true
     carries_it =
         subst (λ (a : Answer). carries a ≡ true) (done_means l s f h.good h.cans h.reached h.means c).says
         (carried (limits_of l) s h.means.sized h.good c send.1)

@@ -1,8 +1,8 @@
 -- The loop over a text's bytes. Assumes nothing.
-use Rattle.std.proofs.Common.{◌≡◌, ℕ, ◌+◌, ◌-◌, ◌<◌, ◌≤◌, cond, eqb, List, [], ◌∷◌, ◌++◌, length, get_or, take, drop, sym, ap, ◌∙◌}
+use Rattle.std.proofs.Common.{◌≡◌, ℕ, ◌+◌, ◌-◌, ◌<◌, ◌≤◌, cond, eqb, List, [], ◌∷◌, ◌++◌, length, get_or, take, drop, sym, refl, ap, ◌∙◌, append_assoc}
 use Rattle.std.specs.List.{flat_map}
 use Rattle.std.proofs.lemmas.List.{at_drop_more, at_drop_all, take_more, take_all, drop_all, take_rest, length-drop}
-use Rattle.std.proofs.lemmas.Bool.{cond-true, cond-false, eq-eqb, ne_eqb}
+use Rattle.std.proofs.lemmas.Bool.{cond_both, cond-true, cond-false, eq-eqb, ne_eqb}
 use Rattle.text.specs.Lines.{lines_after, lines, heard, lines_of_calls}
 
 -- THE FIRST LINE: one byte more belongs to it, or it ends here
@@ -27,3 +27,19 @@ end_parts s n h l =
 
 pub rest_length : (s : List ℕ) (k : ℕ) → length (take (length s - k) (drop k s)) ≡ length s - k
 rest_length s k = ap length (take_rest s k) ∙ length-drop k s
+
+-- what stands before a line feed, and what stands behind it
+lines_add : (l a b : List ℕ) → lines_after l (a ++ 10 ∷ b) ≡ lines_after l a ++ lines b
+lines_add l [] b = refl
+lines_add l (c ∷ a) b =
+    cond_both (eqb c 10) (l ∷ lines_after [] (a ++ 10 ∷ b)) (lines_after (l ++ c ∷ []) (a ++ 10 ∷ b))
+    (λ (ls : List (List ℕ)). ls ≡ cond (eqb c 10) (l ∷ lines_after [] a) (lines_after (l ++ c ∷ []) a) ++ lines b)
+    (λ e. ap (λ (ls : List (List ℕ)). l ∷ ls) (lines_add [] a b) ∙ ap (λ (ls : List (List ℕ)). ls ++ lines b) (sym (cond-true (eqb c 10) (l ∷ lines_after [] a) (lines_after (l ++ c ∷ []) a) e)))
+    (λ e. lines_add (l ++ c ∷ []) a b ∙ ap (λ (ls : List (List ℕ)). ls ++ lines b) (sym (cond-false (eqb c 10) (l ∷ lines_after [] a) (lines_after (l ++ c ∷ []) a) e)))
+
+joined_add : (xs ys : List (List ℕ)) → flat_map heard (xs ++ ys) ≡ flat_map heard xs ++ flat_map heard ys
+joined_add [] ys = refl
+joined_add (x ∷ xs) ys = ap (λ (ls : List (List ℕ)). heard x ++ ls) (joined_add xs ys) ∙ sym (append_assoc (heard x) (flat_map heard xs) (flat_map heard ys))
+
+pub call_lines_add : (a b : List ℕ) → lines_of_calls (a ++ 10 ∷ b) ≡ lines_of_calls a ++ lines_of_calls b
+call_lines_add a b = ap (flat_map heard) (lines_add [] a b) ∙ joined_add (lines a) (lines b)

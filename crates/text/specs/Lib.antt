@@ -1,3 +1,7 @@
 pub mod Lines
 pub mod Run
+pub mod Tallies
 pub mod Standing
+pub mod Noting
+pub mod Books
+pub mod Statements

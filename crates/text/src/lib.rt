@@ -3,9 +3,15 @@
 #![tactic(auto)]
 
 mod answering;
+mod books;
 mod error;
+mod laws;
 mod lines;
 mod running;
+mod tally;
 
+pub use books::Books;
 pub use error::RunError;
+pub use laws::{line_by_line_stands, tally_counts_stands};
 pub use running::run;
+pub use tally::{REFUSALS, Tally};

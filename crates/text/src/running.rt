@@ -3,31 +3,34 @@
 ghost use Rattle.std.specs.Prelude.{◌≡◌, true, length, IfOk, MatchResult, OnOk};
 ghost use Rattle.layout.specs.Layout.{Good, is_good, wide_need, narrow_need, answer_need};
 ghost use Rattle.records.specs.State.{state};
+ghost use Rattle.text.specs.Noting.{CallsNoted};
 ghost use Rattle.text.specs.Run.{calls, ran, failure};
 ghost use Rattle.text.specs.Standing.{CallsDone};
 
 use crate::answering::answer_if_heard;
 use crate::error::RunError;
 use crate::lines::first_line;
+use crate::tally::Tally;
 use layout::Limits;
 use std::alloc::{AllocError, Global};
 
-// Appends the answers to the calls of a text, line by line.
-fn answer_text(
-    heap: Global,
+/// Appends the answers to the calls of a text, line by line, and counts them. The bytes of `call` are of no account, before and afterwards.
+pub fn answer_text(
     wide: &mut [u64],
     narrow: &mut [u32],
     text: &[u8],
+    call: &mut Vec<u8>,
     answer: &mut [u8],
+    tally: &mut Tally,
     out: &mut Vec<u8>,
 ) -> Result<(), AllocError>
-    ensures { OnOk result (CallsDone (calls text.now) (state wide.old narrow.old) (state wide.new narrow.new) (length answer.old) out.old.items out.new.items) }
+    ensures done { OnOk result (CallsDone (calls text.now) (state wide.old narrow.old) (state wide.new narrow.new) (length answer.old) out.old.items out.new.items) }
+    ensures counted { OnOk result (CallsNoted (calls text.now) (state wide.old narrow.old) (length answer.old) tally.old tally.new) }
 {
-    let mut call = Vec::new(heap);
     let mut rest = text;
     while rest.len() > 0 {
         let (line, after) = first_line(rest);
-        answer_if_heard(wide, narrow, line, &mut call, answer, out)?;
+        answer_if_heard(wide, narrow, line, call, answer, tally, out)?;
         rest = after;
     }
     Ok(())
@@ -49,8 +52,10 @@ fn run_in(
     ensures { IfOk result (λ v. v.items ≡ ran limits text.now) }
 {
     let _ = memory::open(wide, narrow, limits);
+    let mut call = Vec::new(heap);
+    let mut tally = Tally::new();
     let mut out = Vec::new(heap);
-    answer_text(heap, wide, narrow, text, answer, &mut out)?;
+    answer_text(wide, narrow, text, &mut call, answer, &mut tally, &mut out)?;
     Ok(out)
 }
 

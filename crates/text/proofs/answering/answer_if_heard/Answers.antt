@@ -1,10 +1,14 @@
 use Rattle.std.proofs.Common.{◌≡◌, true, length, vec_items, sym, subst}
 use Rattle.records.specs.State.{state}
-use Rattle.text.specs.Lines.{quiet}
+use Rattle.text.specs.Lines.{quiet, bare}
 use Rattle.text.proofs.Lined.{quiet_line}
+use Rattle.text.proofs.Noting.{quiet_noted}
 use Rattle.text.proofs.answering.answer_if_heard.Goals as goal
 
 pub returns-then-is_quiet : goal.returns-then-is_quiet
 returns-then-is_quiet c =
-    quiet_line c.args.line.now (state c.args.wide.now c.args.narrow.now) (length c.args.answer.now) (vec_items c.args.out.now)
-    (subst (λ s. quiet s ≡ true) c.bare-line.ensures (sym c.if-is_quiet.ensures))
+    let silent : quiet (bare c.args.line.now) ≡ true = subst (λ s. quiet s ≡ true) c.bare-line.ensures (sym c.if-is_quiet.ensures) in
+    record {
+      done = quiet_line c.args.line.now (state c.args.wide.now c.args.narrow.now) (length c.args.answer.now) (vec_items c.args.out.now) silent;
+      counted = quiet_noted c.args.line.now (state c.args.wide.now c.args.narrow.now) (length c.args.answer.now) c.args.tally.now silent;
+    }

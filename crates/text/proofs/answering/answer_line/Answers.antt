@@ -1,8 +1,11 @@
 use Rattle.std.proofs.Common.{◌^◌, ◌<◌, [], ◌∷◌, ◌++◌, length, vec_items, sym, refl, ap, ◌∙◌, subst, ap₂, arith}
 use Rattle.records.specs.State.{State, state}
 use Rattle.call_lines.specs.Lines.{call_or_place, call_in_line}
+use Rattle.text.specs.Noting.{CallsNoted}
 use Rattle.text.specs.Standing.{CallsDone}
+use Rattle.text.specs.declared.tally.Tally.{Tally}
 use Rattle.text.proofs.Lined.{call_line, misfit_line}
+use Rattle.text.proofs.Noting.{call_noted, misfit_noted}
 use Rattle.text.proofs.Sent.{sendable, misfit}
 use Rattle.text.proofs.answering.answer_line.Goals as goal
 use Rattle.text.proofs.answering.answer_line.Goals.{in-Call+in_ok-answer_call-in-Call, in-Misfit+in_ok-put_misfit-in-Misfit}
@@ -12,18 +15,30 @@ returns c =
     elim c.match-branch-2.branch [
       | in-Call+in_ok-answer_call-in-Call w ↦
           let small : length c.args.line.now < 2 ^ 64 = omega arith in
-          subst (λ (t : State). CallsDone (call_in_line c.args.line.now ∷ []) (state c.args.wide.now c.args.narrow.now) t (length c.args.answer.now) (vec_items c.args.out.now) (vec_items c.push.new.self))
-          (sym (ap₂ state w.wide-is w.narrow-is))
-          (call_line c.args.line.now w.as_slice.result.now (state c.args.wide.now c.args.narrow.now) (state w.answer_call.new.wide w.answer_call.new.narrow) (length c.args.answer.now)
-          (vec_items c.args.out.now) (vec_items w.answer_call.new.out) (vec_items c.push.new.self) w.in_ok-answer_call-in-Call.ensures
-          (w.as_slice.ensures.value ∙ c.in_ok-read_line.ensures.bytes)
-          (sendable c.args.line.now (call_or_place c.args.line.now) refl small (sym w.in-Call.is ∙ c.in_ok-read_line.ensures.reading))
-          (c.in_ok-push.ensures.items ∙ ap (λ o. vec_items o ++ (10 ∷ [])) w.out-is))
+          let row = w.as_slice.ensures.value ∙ c.in_ok-read_line.ensures.bytes in
+          let send = sendable c.args.line.now (call_or_place c.args.line.now) refl small (sym w.in-Call.is ∙ c.in_ok-read_line.ensures.reading) in
+          record {
+            done =
+                subst (λ (t : State). CallsDone (call_in_line c.args.line.now ∷ []) (state c.args.wide.now c.args.narrow.now) t (length c.args.answer.now) (vec_items c.args.out.now) (vec_items c.push.new.self))
+                (sym (ap₂ state w.wide-is w.narrow-is))
+                (call_line c.args.line.now w.as_slice.result.now (state c.args.wide.now c.args.narrow.now) (state w.answer_call.new.wide w.answer_call.new.narrow) (length c.args.answer.now)
+                (vec_items c.args.out.now) (vec_items w.answer_call.new.out) (vec_items c.push.new.self) w.in_ok-answer_call-in-Call.ensures.done row send
+                (c.in_ok-push.ensures.items ∙ ap (λ o. vec_items o ++ (10 ∷ [])) w.out-is));
+            counted =
+                subst (λ (t : Tally). CallsNoted (call_in_line c.args.line.now ∷ []) (state c.args.wide.now c.args.narrow.now) (length c.args.answer.now) c.args.tally.now t) (sym w.tally-is)
+                (call_noted c.args.line.now w.as_slice.result.now (state c.args.wide.now c.args.narrow.now) (length c.args.answer.now) c.args.tally.now w.answer_call.new.tally w.in_ok-answer_call-in-Call.ensures.counted row send);
+          }
       | in-Misfit+in_ok-put_misfit-in-Misfit w ↦
-          subst (λ (t : State). CallsDone (call_in_line c.args.line.now ∷ []) (state c.args.wide.now c.args.narrow.now) t (length c.args.answer.now) (vec_items c.args.out.now) (vec_items c.push.new.self))
-          (sym (ap₂ state w.wide-is w.narrow-is))
-          (misfit_line c.args.line.now (state c.args.wide.now c.args.narrow.now) (length c.args.answer.now) w.in-Misfit.place
-          (vec_items c.args.out.now) (vec_items w.put_misfit.new.out) (vec_items c.push.new.self)
-          (misfit c.args.line.now (call_or_place c.args.line.now) w.in-Misfit.place refl (sym w.in-Misfit.is ∙ c.in_ok-read_line.ensures.reading))
-          w.in_ok-put_misfit-in-Misfit.ensures (c.in_ok-push.ensures.items ∙ ap (λ o. vec_items o ++ (10 ∷ [])) w.out-is))
+          let is = misfit c.args.line.now (call_or_place c.args.line.now) w.in-Misfit.place refl (sym w.in-Misfit.is ∙ c.in_ok-read_line.ensures.reading) in
+          record {
+            done =
+                subst (λ (t : State). CallsDone (call_in_line c.args.line.now ∷ []) (state c.args.wide.now c.args.narrow.now) t (length c.args.answer.now) (vec_items c.args.out.now) (vec_items c.push.new.self))
+                (sym (ap₂ state w.wide-is w.narrow-is))
+                (misfit_line c.args.line.now (state c.args.wide.now c.args.narrow.now) (length c.args.answer.now) w.in-Misfit.place
+                (vec_items c.args.out.now) (vec_items w.put_misfit.new.out) (vec_items c.push.new.self) is
+                w.in_ok-put_misfit-in-Misfit.ensures.done (c.in_ok-push.ensures.items ∙ ap (λ o. vec_items o ++ (10 ∷ [])) w.out-is));
+            counted =
+                subst (λ (t : Tally). CallsNoted (call_in_line c.args.line.now ∷ []) (state c.args.wide.now c.args.narrow.now) (length c.args.answer.now) c.args.tally.now t) (sym w.tally-is)
+                (misfit_noted c.args.line.now (state c.args.wide.now c.args.narrow.now) (length c.args.answer.now) w.in-Misfit.place c.args.tally.now w.put_misfit.new.tally is w.in_ok-put_misfit-in-Misfit.ensures.counted);
+          }
     ]

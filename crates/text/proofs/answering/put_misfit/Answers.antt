@@ -6,5 +6,9 @@ use Rattle.text.proofs.answering.put_misfit.Goals as goal
 pub returns : goal.returns
 unfolding shown digits
 returns c =
-    c.in_ok-put_number.ensures ∙ ap (λ x. x ++ decimal c.args.place) c.in_ok-extend_from_slice.ensures.items
-    ∙ append_assoc (vec_items c.args.out.now) (codes "refused 1 at ") (decimal c.args.place)
+    record {
+      done =
+          c.in_ok-put_number.ensures ∙ ap (λ x. x ++ decimal c.args.place) c.in_ok-extend_from_slice.ensures.items
+          ∙ append_assoc (vec_items c.args.out.now) (codes "refused 1 at ") (decimal c.args.place);
+      counted = c.refuse.ensures;
+    }

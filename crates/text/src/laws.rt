@@ -1,0 +1,17 @@
+//! What holds of texts and tallies.
+
+ghost use Rattle.text.specs.Statements.{LineByLine, TallyCounts};
+
+/// A text that comes in lines is answered as it would be whole.
+pub fn line_by_line_stands() -> u8
+    ensures { LineByLine }
+{
+    0
+}
+
+/// The tally counts what was taken, what was turned away, and by which refusal.
+pub fn tally_counts_stands() -> u8
+    ensures { TallyCounts }
+{
+    0
+}
