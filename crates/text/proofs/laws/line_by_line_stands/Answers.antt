@@ -1,4 +1,4 @@
-use Rattle.std.proofs.Common.{ℕ, List, ap, ◌∙◌}
+use Rattle.std.proofs.Common.{ap, ◌∙◌}
 use mathlib.Core.List.{map-append}
 use Rattle.call_lines.specs.Lines.{call_in_line}
 use Rattle.text.specs.Lines.{lines_of_calls}

@@ -1,4 +1,4 @@
-use Rattle.std.proofs.Common.{◌≡◌, true, sym, ◌∙◌, rules}
+use Rattle.std.proofs.Common.{◌≡◌, true, rules}
 use Rattle.layout.specs.Layout.{is_good}
 use Rattle.text.proofs.books.Books.open.Goals as goal
 

@@ -1,8 +1,6 @@
-use Rattle.std.proofs.Common.{◌≡◌, ℕ, List, length, vec_items, sym, subst, ap₂, arith}
-use Rattle.std.proofs.lemmas.List.{with_items_is}
+use Rattle.std.proofs.Common.{length, vec_items, arith}
 use Rattle.firm.specs.Firm.{new_firm}
 use Rattle.layout.specs.Layout.{answer_need}
-use Rattle.records.specs.State.{State, state}
 use Rattle.text.specs.Run.{books_limits}
 use Rattle.text.proofs.Lending.{keeps_lent}
 use Rattle.text.proofs.books.Books.open_within.Goals as goal
