@@ -1,0 +1,115 @@
+//! What the arguments ask for, word by word.
+
+ghost use Rattle.std.specs.Prelude.{◌≡◌};
+ghost use Rattle.command_line.specs.Options.{Took, number_to, nothing_asked, with_number, option_taken, with_file, dashed, word_taken, ended, most};
+ghost use Rattle.command_line.specs.Requests.{asked};
+
+use crate::limit::{Limit, usual};
+use crate::misuse::Misuse;
+use layout::Limits;
+use std::alloc::Global;
+use words::{same, value};
+
+/// What a program is to do.
+#[derive(Drop)]
+pub struct Request {
+    pub limits: Limits,
+    /// The file of calls; without one they come from standard input.
+    pub file: Option<String>,
+    pub help: bool,
+    // the option whose number comes next
+    wanted: Option<Limit>,
+}
+
+// The number that a word writes, digits alone, if it is at most so much.
+fn number_to(word: &[u8], most: u32) -> Option<u32>
+    ensures { result ≡ number_to most word.now }
+{
+    let value = value(word)?;
+    if value <= most as u64 {
+        Some(value as u32)
+    } else {
+        None
+    }
+}
+
+fn is_dashed(word: &[u8]) -> bool
+    ensures { result ≡ dashed word.now }
+{
+    word.len() > 0 && word[0] == b'-'
+}
+
+impl Request {
+    /// What no word asks for.
+    pub fn new() -> Request
+        ensures { asked result ≡ nothing_asked }
+    {
+        Request {
+            limits: usual(),
+            file: None,
+            help: false,
+            wanted: None,
+        }
+    }
+
+    fn take_number(&mut self, limit: Limit, word: &str) -> Result<(), Misuse>
+        ensures { Took (with_number limit (number_to (most limit) word.now) (asked self.old)) result (asked self.new) }
+    {
+        let Some(value) = number_to(word.as_bytes(), limit.most()) else {
+            return Err(Misuse::NotANumber(limit));
+        };
+        self.limits = limit.put(self.limits, value);
+        self.wanted = None;
+        Ok(())
+    }
+
+    fn take_option(&mut self, word: &str) -> Result<(), Misuse>
+        ensures { Took (option_taken word.now (asked self.old)) result (asked self.new) }
+    {
+        if same(word.as_bytes(), b"--help") {
+            self.help = true;
+            return Ok(());
+        }
+        let Some(limit) = Limit::named(word.as_bytes()) else {
+            return Err(Misuse::NoSuchOption);
+        };
+        self.wanted = Some(limit);
+        Ok(())
+    }
+
+    fn take_file(&mut self, heap: Global, word: &str) -> Result<(), Misuse>
+        ensures { Took (with_file (asked self.old).file word.now (asked self.old)) result (asked self.new) }
+    {
+        if self.file.is_some() {
+            return Err(Misuse::SecondFile);
+        }
+        let Ok(name) = String::from_str(heap, word) else {
+            return Err(Misuse::OutOfMemory);
+        };
+        self.file = Some(name);
+        Ok(())
+    }
+
+    /// Takes one word more.
+    pub fn take(&mut self, heap: Global, word: &str) -> Result<(), Misuse>
+        ensures { Took (word_taken self.old.wanted word.now (asked self.old)) result (asked self.new) }
+    {
+        if let Some(limit) = self.wanted {
+            return self.take_number(limit, word);
+        }
+        if is_dashed(word.as_bytes()) {
+            return self.take_option(word);
+        }
+        self.take_file(heap, word)
+    }
+
+    /// Whether nothing is missing at the end of the words.
+    pub fn end(&self) -> Result<(), Misuse>
+        ensures { result ≡ ended self.now.wanted }
+    {
+        match self.wanted {
+            Some(limit) => Err(Misuse::NumberMissing(limit)),
+            None => Ok(()),
+        }
+    }
+}
