@@ -1,5 +1,5 @@
 -- What is seen in memory that stands for a firm is what the firm has. Assumes nothing.
-use Rattle.std.proofs.Common.{◌≡◌, ℕ, ◌<◌, Bool, true, false, eqb, ltb, List, ◌++◌, map, length, get_or, codes, sym, refl, ap, ◌∙◌, ap₂, append_assoc, arith}
+use Rattle.std.proofs.Common.{◌≡◌, ℕ, ◌<◌, true, eqb, List, ◌++◌, length, get_or, codes, sym, refl, ap, ◌∙◌, ap₂, append_assoc, arith}
 use Rattle.std.proofs.lemmas.List.{length-map, get_or-map}
 use Rattle.std.proofs.lemmas.Bool.{lt-ltb, eq-eqb}
 use Rattle.firm.specs.Stock.{on_hand, worth}
@@ -10,15 +10,14 @@ use Rattle.firm.specs.Calls.{Call, Answer, two, call_number}
 use Rattle.firm.specs.Calls as calls
 use Rattle.firm.specs.Changes.{changed}
 use Rattle.firm.specs.Refusals.{good_fields, good_call, turned_by, turned, fits}
-use Rattle.firm.specs.Answers.{told, answer, answers, ran}
+use Rattle.firm.specs.Answers.{told, answer}
 use Rattle.firm.proofs.Bounds.{reached_fits}
 use Rattle.firm.proofs.Picks.{pick_true}
 use Rattle.firm.proofs.Turned.{turned_not}
-use Rattle.layout.specs.declared.head.Counter.TheVariants.{Orders}
 use Rattle.layout.specs.declared.limits.Limits.{Limits}
-use Rattle.memory.specs.Books.{count_of, order_record}
+use Rattle.memory.specs.Books.{order_record}
 use Rattle.records.specs.Kinds.{order_kind}
-use Rattle.records.specs.State.{State, state}
+use Rattle.records.specs.State.{State}
 use Rattle.rules.specs.Asking.{stock_told, account_told}
 use Rattle.session.specs.Means.{order_of}
 use Rattle.session.proofs.Keeping.{done_means}

@@ -1,5 +1,5 @@
 -- Tables as text: fields right-aligned in columns, one row under the other. Definitions only: nothing is assumed.
-use Rattle.std.specs.Prelude.{ℕ, zero, suc, ◌-◌, List, [], ◌∷◌, ◌++◌, length, replicate, codes, decimal}
+use Rattle.std.specs.Prelude.{ℕ, zero, suc, ◌-◌, List, [], ◌++◌, length, replicate, codes, decimal}
 use Rattle.std.specs.List.{flat_map}
 use Rattle.reporting.specs.declared.columns.Cell.{Cell}
 

@@ -1,4 +1,4 @@
-use Rattle.std.proofs.Common.{ℕ, List, get_or, vec_items, arith}
+use Rattle.std.proofs.Common.{get_or, vec_items, arith}
 use Rattle.reporting.specs.Report.{by_shown}
 use Rattle.reporting.proofs.Rows.{rows_none, rows_next, rows_end}
 use Rattle.reporting.proofs.calls.put_refusals.Goals as goal

@@ -1,4 +1,4 @@
-use Rattle.std.proofs.Common.{List, ◌++◌, vec_items, ap, ◌∙◌, arith}
+use Rattle.std.proofs.Common.{◌++◌, vec_items, ap, ◌∙◌, arith}
 use Rattle.layout.specs.declared.head.Counter.TheVariants.{Orders}
 use Rattle.memory.specs.Books.{count_of}
 use Rattle.records.specs.declared.order.Order.{Order}

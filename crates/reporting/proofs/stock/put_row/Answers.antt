@@ -1,4 +1,4 @@
-use Rattle.std.proofs.Common.{ℕ, eqb, List, [], ◌++◌, vec_items, codes, sym, ap, ◌∙◌, append_assoc, append-nil}
+use Rattle.std.proofs.Common.{ℕ, eqb, List, [], ◌++◌, vec_items, codes, sym, ap, ◌∙◌, append-nil}
 use Rattle.std.proofs.lemmas.Bool.{cond-true, cond-false, eq-eqb, ne_eqb}
 use Rattle.reporting.specs.Columns.{cells}
 use Rattle.reporting.specs.Tables.{stock_cells, stock_row}

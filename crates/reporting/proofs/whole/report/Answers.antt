@@ -1,4 +1,4 @@
-use Rattle.std.proofs.Common.{◌≡◌, ℕ, List, ◌++◌, length, vec_items, sym, ap, ◌∙◌, ap₂}
+use Rattle.std.proofs.Common.{◌≡◌, ℕ, List, ◌++◌, length, vec_items, ap, ◌∙◌, ap₂}
 use Rattle.firm.specs.Answers.{answers, ran}
 use Rattle.firm.specs.Firm.{new_firm}
 use Rattle.records.specs.State.{State, state}
