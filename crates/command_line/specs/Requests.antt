@@ -1,5 +1,5 @@
 -- What a request of the code asks for. Definitions only: nothing is assumed.
-use Rattle.std.specs.Prelude.{ℕ, List, string_bytes}
+use Rattle.std.specs.Prelude.{string_bytes}
 use Rattle.std.specs.Option.{option_map}
 use Rattle.command_line.specs.Options.{Asked}
 use Rattle.command_line.specs.declared.request.Request.{Request}
