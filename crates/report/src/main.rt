@@ -5,6 +5,7 @@
 
 use command_line::{Failed, bad_limits, no_memory, read, whole_text, write};
 use reporting::report;
+use std::process::ExitCode;
 use text::RunError;
 
 const NAME: &str = "report";
@@ -22,15 +23,23 @@ Does the calls of FILE, or of standard input, and prints stock, accounts and ord
   --help       says this
 ";
 
-fn main(rt: HostRuntime) -> Result<(), Failed> {
-    let request = read(&rt, NAME)?;
+fn print(rt: &HostRuntime) -> Result<(), Failed> {
+    let request = read(rt, NAME)?;
     if request.help {
-        return write(&rt, NAME, HELP.as_bytes());
+        return write(rt, NAME, HELP.as_bytes());
     }
-    let text = whole_text(&rt, NAME, &request.file)?;
+    let text = whole_text(rt, NAME, &request.file)?;
     match report(rt.alloc(), request.limits, text.as_slice()) {
-        Ok(tables) => write(&rt, NAME, tables.as_slice()),
-        Err(RunError::OutOfMemory) => Err(no_memory(&rt, NAME)),
-        Err(RunError::LimitsOutOfRange) => Err(bad_limits(&rt, NAME)),
+        Ok(tables) => write(rt, NAME, tables.as_slice()),
+        Err(RunError::OutOfMemory) => Err(no_memory(rt, NAME)),
+        Err(RunError::LimitsOutOfRange) => Err(bad_limits(rt, NAME)),
+    }
+}
+
+// What went wrong is said by then, in one line.
+fn main(rt: HostRuntime) -> ExitCode {
+    match print(&rt) {
+        Ok(()) => ExitCode::SUCCESS,
+        Err(Failed) => ExitCode::FAILURE,
     }
 }
