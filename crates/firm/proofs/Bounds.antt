@@ -1,6 +1,6 @@
 -- Beyond the eight statements, what a program that keeps the books in 64 bits needs: what is reached fits, products stay small, and what is
 -- lacking is what is not on hand. Assumes nothing.
-use Rattle.std.proofs.Common.{◌≡◌, ℕ, ◌-◌, ◌*◌, ◌≤◌, true, ◌&&◌, ltb, leb, ◌⊎◌, List, [], ◌∷◌, ◌++◌, refl, subst, inl, inr, mul-le-mul, arith}
+use Rattle.std.proofs.Common.{◌≡◌, ℕ, ◌-◌, ◌*◌, ◌≤◌, true, ◌&&◌, ltb, leb, List, [], ◌∷◌, ◌++◌, refl, subst, inl, inr, mul-le-mul, arith}
 use lib.Dec.{leb-zero}
 use Rattle.std.proofs.lemmas.Bool.{and_parts, leb-true}
 use Rattle.firm.specs.Stock.{Lot, Part, take, take_all, on_hand, all_worth}

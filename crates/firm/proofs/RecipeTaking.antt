@@ -1,5 +1,5 @@
 -- Taking what a recipe asks for: no piece and no cent is lost, of any item, and all that is taken is of the recipe's items. Assumes nothing.
-use Rattle.std.proofs.Common.{◌≡◌, ℕ, ◌+◌, ◌-◌, ◌*◌, ◌/◌, Bool, true, false, ◌&&◌, ◌||◌, eqb, ◌≢◌, List, [], ◌∷◌, ◌++◌, sym, refl, ap, ◌∙◌, subst, inl, inr, arith}
+use Rattle.std.proofs.Common.{◌≡◌, ℕ, ◌+◌, ◌-◌, ◌*◌, ◌/◌, Bool, true, false, ◌||◌, eqb, ◌≢◌, List, [], ◌∷◌, ◌++◌, sym, refl, ◌∙◌, subst, inl, inr, arith}
 use Rattle.std.proofs.lemmas.Bool.{cases_eq, and_parts, and_from, eq-eqb}
 use Rattle.firm.specs.Stock.{Lot, Taken, take, on_hand, worth, all_worth, Part, take_all}
 use Rattle.firm.specs.Statements.{all_pieces, asked, in_recipe, all_in_recipe, RecipeTakingKeeps}

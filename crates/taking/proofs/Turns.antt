@@ -1,7 +1,6 @@
 -- Walking along lots while pieces are wanted: a turn, and its ends. Assumes nothing.
 use Rattle.std.proofs.Common.{◌≡◌, ℕ, zero, suc, ◌+◌, ◌-◌, ◌<◌, ◌≤◌, cond, eqb, leb, List, [], ◌∷◌, length, Some, None, Option, sym, refl, ap, ◌∙◌, subst, arith, length-append}
 use Rattle.std.proofs.lemmas.Bool.{eq-eqb, ne_eqb, cond-true, cond-false, cond_both, leb-true}
-use Rattle.firm.specs.Stock as firm
 use Rattle.layout.specs.declared.limits.Limits.{Limits}
 use Rattle.memory.specs.Books.{lot_record}
 use Rattle.questions.specs.Listing.{lot_of}
