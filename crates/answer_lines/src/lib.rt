@@ -1,4 +1,7 @@
 //! The bytes of answers to text.
+
+#![tactic(auto)]
+
 mod quads;
 mod show;
 mod showing;

@@ -1,6 +1,8 @@
 //! `books [--items N] [--orders N] [--lots N] [--parts N] [--entries N] [FILE]`: answers the calls of a file all at once, or those of standard input
 //! each as it comes.
 
+#![tactic(auto)]
+
 mod typed;
 
 use command_line::{Failed, Request, bad_limits, no_memory, read, text_of, write};

@@ -34,7 +34,9 @@ fn answer_line(
 /// Answers the lines of standard input, each as it comes.
 pub fn answer_typed(rt: &HostRuntime, program: &str, limits: Limits) -> Result<(), Failed> {
     let mut books = open(rt, program, limits)?;
-    let mut input = BufReader::new(rt.stdin());
+    let Ok(mut input) = BufReader::new(rt.alloc(), rt.stdin()) else {
+        return Err(no_memory(rt, program));
+    };
     let mut line = Vec::new(rt.alloc());
     for _turn in 0..u64::MAX {
         line.clear();

@@ -1,4 +1,7 @@
 //! Lines of text to the bytes of calls.
+
+#![tactic(auto)]
+
 mod laws;
 mod lines;
 mod numbers;

@@ -1,4 +1,7 @@
 //! Calls to lines of text.
+
+#![tactic(auto)]
+
 mod numbers;
 mod print;
 mod recipes;

@@ -1,5 +1,7 @@
 //! The arguments of the programs: options that widen the books, and a file of calls.
 
+#![tactic(auto)]
+
 mod limit;
 mod misuse;
 mod reading;

@@ -1,4 +1,7 @@
 //! Fields of eight bytes, the low byte first, in rows of bytes.
+
+#![tactic(auto)]
+
 mod reading;
 mod writing;
 

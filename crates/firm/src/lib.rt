@@ -1,6 +1,8 @@
 //! The meaning of the books: what lies in stock, what stands in the ledger, and what calls are answered, as definitions in specs/
 //! that go through everything each time. The code here only names the theorems about them, so that each has to be proved.
 
+#![tactic(auto)]
+
 mod examples;
 mod laws;
 mod promises;

@@ -1,6 +1,8 @@
 //! The layout of the books in the two lent slices: how many words the limits ask for, and where each record, counter, total
 //! and row lies. The addresses are defined for any limits and any index.
 
+#![tactic(auto)]
+
 ghost use Rattle.std.specs.Prelude.{◌≡◌, T};
 ghost use Rattle.layout.specs.Areas.{Areas};
 ghost use Rattle.layout.specs.Budget.{Budget};

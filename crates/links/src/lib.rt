@@ -2,6 +2,8 @@
 //! of a row r, so that the front of a row is no special case; n is also the end mark. Every function is defined on any
 //! shape and any words.
 
+#![tactic(auto)]
+
 ghost use Rattle.std.specs.Prelude.{◌≡◌};
 ghost use Rattle.links.specs.Area.{place_at, tail_at, header_of, after_in, tail_in, following_in, nth_in, inserted, removed, emptied, chained, filled};
 ghost use Rattle.links.specs.Rows.{RowsLaws};

@@ -1,6 +1,8 @@
 //! The memory of the books: two lent slices, whose words are got and put by what they mean. Getters and putters are defined
 //! on any memory: beyond the end of a slice nothing is read, and nothing is written.
 
+#![tactic(auto)]
+
 ghost use Rattle.std.specs.Prelude.{◌≡◌, ◌≤◌, ◌++◌, length};
 ghost use Rattle.memory.specs.Books.{limits_in, count_of, put_count, total_of, put_total, order_record, put_order, lot_record, put_lot, entry_record, put_entry, part_record, put_part, recipe_of, put_recipe, balance_of, put_balance, stock_of, put_stock};
 ghost use Rattle.memory.specs.Opened.{zeroed, with_limits, with_rows, opening, opening_of};

@@ -1,4 +1,7 @@
 //! The words that begin a call, its number, and what stands after those words.
+
+#![tactic(auto)]
+
 mod first_words;
 mod form;
 mod forms;

@@ -1,6 +1,8 @@
 //! The records of the books as structs by value, each read from and written to rows of words at any address of any memory:
 //! where a row of a record is not wholly there, the record of nothing is read, and no word is written.
 
+#![tactic(auto)]
+
 ghost use Rattle.records.specs.Kinds.{RecordLaws};
 
 mod balance;

@@ -1,6 +1,8 @@
 //! `report [--items N] [--orders N] [--lots N] [--parts N] [--entries N] [FILE]`: does the calls of a file, or of standard input, and prints stock,
 //! accounts and orders as they are in the end.
 
+#![tactic(auto)]
+
 use command_line::{Failed, bad_limits, no_memory, read, whole_text, write};
 use reporting::report;
 use session::RunError;

@@ -1,5 +1,7 @@
 //! A report on books: stock, accounts, orders, and how many calls were taken and turned away.
 
+#![tactic(auto)]
+
 mod accounts;
 mod calls;
 mod columns;

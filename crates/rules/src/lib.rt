@@ -1,6 +1,8 @@
 //! The rules of the books: for each call the checks in their order, which only read, and then its steps, which only write.
 //! A call that is refused leaves every word as it was.
 
+#![tactic(auto)]
+
 mod asking;
 mod checks;
 mod entering;

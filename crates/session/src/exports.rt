@@ -1,4 +1,4 @@
-//! The functions for C and other languages: numbers and slices in, one signed number out.
+//! What the functions for C and other languages do: numbers and slices in, one signed number out. The crate session_c exports them.
 
 ghost use Rattle.std.specs.Prelude.{◌≡◌};
 ghost use Rattle.layout.specs.Layout.{wide_need, narrow_need, answer_need};
@@ -19,8 +19,7 @@ const OUT_OF_RANGE: i64 = -12884901889;
 const TOO_SMALL: i64 = -12884901888;
 
 /// How many 64-bit words the limits ask for.
-#[unsafe(no_mangle)]
-pub extern "C" fn books_wide(limits: &[u64]) -> i64
+pub fn books_wide(limits: &[u64]) -> i64
     ensures { result ≡ asked wide_need (limits_read limits.now) }
 {
     match limits_from(limits) {
@@ -30,8 +29,7 @@ pub extern "C" fn books_wide(limits: &[u64]) -> i64
 }
 
 /// How many 32-bit words the limits ask for.
-#[unsafe(no_mangle)]
-pub extern "C" fn books_narrow(limits: &[u64]) -> i64
+pub fn books_narrow(limits: &[u64]) -> i64
     ensures { result ≡ asked narrow_need (limits_read limits.now) }
 {
     match limits_from(limits) {
@@ -41,8 +39,7 @@ pub extern "C" fn books_narrow(limits: &[u64]) -> i64
 }
 
 /// How many bytes of answer the limits ask for.
-#[unsafe(no_mangle)]
-pub extern "C" fn books_answer(limits: &[u64]) -> i64
+pub fn books_answer(limits: &[u64]) -> i64
     ensures { result ≡ asked answer_need (limits_read limits.now) }
 {
     match limits_from(limits) {
@@ -52,8 +49,7 @@ pub extern "C" fn books_answer(limits: &[u64]) -> i64
 }
 
 /// Opens empty books: 0, or -(3 * 2^32 + 1) for limits out of range, or -(3 * 2^32) for memory that is too small.
-#[unsafe(no_mangle)]
-pub extern "C" fn books_open(wide: &mut [u64], narrow: &mut [u32], limits: &[u64]) -> i64
+pub fn books_open(wide: &mut [u64], narrow: &mut [u32], limits: &[u64]) -> i64
     ensures memory { state wide.new narrow.new ≡ (opened_by (limits_read limits.now) (state wide.old narrow.old)).left }
     ensures number { result ≡ opening_number (opened_by (limits_read limits.now) (state wide.old narrow.old)).came }
 {
@@ -65,13 +61,7 @@ pub extern "C" fn books_open(wide: &mut [u64], narrow: &mut [u32], limits: &[u64
 }
 
 /// Does one call and writes its answer: the answer's length, or -(3 * 2^32), and nothing is done, where memory does not suffice.
-#[unsafe(no_mangle)]
-pub extern "C" fn books_call(
-    wide: &mut [u64],
-    narrow: &mut [u32],
-    call: &[u8],
-    answer: &mut [u8],
-) -> i64
+pub fn books_call(wide: &mut [u64], narrow: &mut [u32], call: &[u8], answer: &mut [u8]) -> i64
     ensures memory { state wide.new narrow.new ≡ (called (call_of call.now) (state wide.old narrow.old) answer.old).left }
     ensures bytes { answer.new ≡ (called (call_of call.now) (state wide.old narrow.old) answer.old).bytes }
     ensures number { result ≡ call_number (called (call_of call.now) (state wide.old narrow.old) answer.old).came }

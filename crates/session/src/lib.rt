@@ -1,5 +1,7 @@
 //! The session: books opened and called on memory that the caller lends.
 
+#![tactic(auto)]
+
 mod boundary;
 mod calling;
 mod error;
@@ -12,6 +14,7 @@ mod running;
 pub use boundary::limits_from;
 pub use calling::call;
 pub use error::RunError;
+pub use exports::{books_answer, books_call, books_narrow, books_open, books_wide};
 pub use opening::open;
 pub use promises::{answers_are_right, memory_suffices, refusals_keep};
 pub use running::run;

@@ -1,6 +1,8 @@
 //! What is kept: lots by age for each item, orders by item, entries by account, recipes, sums of items and accounts. Each
 //! function is exact on any memory; the laws say what it means for the lists of lots, orders and entries and for the sums.
 
+#![tactic(auto)]
+
 ghost use Rattle.std.specs.Prelude.{◌≡◌};
 ghost use Rattle.store.specs.Laws.{StoreLaws};
 ghost use Rattle.store.specs.Steps.{pushed};

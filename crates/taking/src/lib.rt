@@ -1,6 +1,8 @@
 //! Pieces taken from an item's lots, the oldest first: what they would cost, and the taking itself. Each function is exact on any memory;
 //! the laws say what it means for the lots of the books.
 
+#![tactic(auto)]
+
 ghost use Rattle.taking.specs.Laws.{TakingLaws};
 
 mod costs;

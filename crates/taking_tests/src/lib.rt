@@ -1,5 +1,7 @@
 //! Tests of taking: pieces of several lots, of a part of one, and of an item that has too few.
 
+#![tactic(auto)]
+
 #[cfg(test)]
 mod tests {
     use layout::{Counter, Limits};

@@ -1,5 +1,7 @@
 //! Calls and answers as lines of text: a text of calls in, the answers out.
 
+#![tactic(auto)]
+
 mod answering;
 mod books;
 mod laws;

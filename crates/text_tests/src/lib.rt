@@ -1,5 +1,7 @@
 //! Tests of lines of text: which calls they are, and how answers are shown.
 
+#![tactic(auto)]
+
 #[cfg(test)]
 mod answers;
 #[cfg(test)]

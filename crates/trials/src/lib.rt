@@ -1,5 +1,7 @@
 //! Tests of the memory and what is kept in it: books opened at small and large limits, and a thousand arrivals.
 
+#![tactic(auto)]
+
 #[cfg(test)]
 mod tests {
     use layout::{Counter, Limits};

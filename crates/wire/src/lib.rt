@@ -6,6 +6,9 @@
 //!
 //! An answer's first byte is its kind, everything after it has eight bytes, counts too: 0, a refusal's number and a place; 1 and a number; 2 and two
 //! numbers; 3, a count and lots (item, pieces, cost, document); 4, a count and entries (left, right, amount, document).
+
+#![tactic(auto)]
+
 mod answer;
 mod answer_reading;
 mod answer_writing;

@@ -1,4 +1,7 @@
 //! Words, marks and numbers in a line of text, and numbers as text.
+
+#![tactic(auto)]
+
 mod decimals;
 mod numerals;
 mod readers;

@@ -9,4 +9,4 @@ returns-then-at-wide c = search rules
 
 pub returns-else-at-wide : goal.returns-else-at-wide
 unfolding put_total
-returns-else-at-wide c = sym (set_past _ _ _ c.if-at-wide.false) ∙ ap (λ (i : ℕ). set c.args.wide.now i c.args.value) c.total-at-at.ensures
+returns-else-at-wide c = sym (set_past _ _ _ c.if-at-wide.false) ∙ ap (λ (i : ℕ). set c.args.wide.now i c.args.value) c.total_at-at.ensures

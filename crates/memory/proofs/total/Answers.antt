@@ -9,4 +9,4 @@ returns-then-at-wide c = search rules
 
 pub returns-else-at-wide : goal.returns-else-at-wide
 unfolding total_of
-returns-else-at-wide c = sym (get_or_past _ _ 0 c.if-at-wide.false) ∙ ap (λ (i : ℕ). get_or c.args.wide.now i 0) c.total-at-at.ensures
+returns-else-at-wide c = sym (get_or_past _ _ 0 c.if-at-wide.false) ∙ ap (λ (i : ℕ). get_or c.args.wide.now i 0) c.total_at-at.ensures

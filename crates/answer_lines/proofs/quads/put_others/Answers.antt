@@ -4,9 +4,9 @@ use Rattle.answer_lines.proofs.quads.put_others.Goals as goal
 
 pub loop-quad-preserved : goal.loop-quad-preserved
 loop-quad-preserved c =
-    quads_more (vec_items c.loop-quad.out) (vec_items c.extend-from-slice.new.self) (vec_items c.put-quad.new.out) c.loop-quad.rest.now c.in-Some.quad
-    c.in-Some.ensures c.in-ok-extend-from-slice.ensures.items c.in-ok-put-quad.ensures
+    quads_more (vec_items c.loop-quad.out) (vec_items c.extend_from_slice.new.self) (vec_items c.put_quad.new.out) c.loop-quad.rest.now c.in-Some.quad
+    c.in-Some.ensures c.in_ok-extend_from_slice.ensures.items c.in_ok-put_quad.ensures
     ∙ c.loop-quad.invariant
 
 pub returns : goal.returns
-returns c = quads_done (vec_items c.loop-quad.out) _ c.loop-quad.rest.now c.in-default.ensures c.loop-quad.invariant
+returns c = quads_done (vec_items c.loop-quad.out) _ c.loop-quad.rest.now c.in_default.ensures c.loop-quad.invariant

@@ -10,26 +10,26 @@ pub returns-in-Refused : goal.returns-in-Refused
 unfolding shown
 returns-in-Refused c = search rules
 
-pub returns-in-ok-put-number : goal.returns-in-ok-put-number
+pub returns-in_ok-put_number-in-Number : goal.returns-in_ok-put_number-in-Number
 unfolding shown
-returns-in-ok-put-number c = search rules
+returns-in_ok-put_number-in-Number c = search rules
 
-pub returns-in-ok-put-two : goal.returns-in-ok-put-two
+pub returns-in_ok-put_two-in-Two : goal.returns-in_ok-put_two-in-Two
 unfolding shown
-returns-in-ok-put-two c = search rules
+returns-in_ok-put_two-in-Two c = search rules
 
 pub returns-in-Lots : goal.returns-in-Lots
 returns-in-Lots c =
     let p = lots_shown c.in-Lots.lines.now in
     record {
-      showing = c.in-ok-put-lines.ensures.showing ∙ p.0 ∙ ap (λ (a : Answer). showing_of (told a)) (sym c.in-Lots.is);
-      text = c.in-ok-put-lines.ensures.text ∙ ap (λ (s : List ℕ). vec_items c.args.out.now ++ s) (p.1 ∙ ap (λ (a : Answer). shown_if (told a)) (sym c.in-Lots.is));
+      showing = c.in_ok-put_lines-in-Lots.ensures.showing ∙ p.0 ∙ ap (λ (a : Answer). showing_of (told a)) (sym c.in-Lots.is);
+      text = c.in_ok-put_lines-in-Lots.ensures.text ∙ ap (λ (s : List ℕ). vec_items c.args.out.now ++ s) (p.1 ∙ ap (λ (a : Answer). shown_if (told a)) (sym c.in-Lots.is));
     }
 
 pub returns-in-Entries : goal.returns-in-Entries
 returns-in-Entries c =
     let p = entries_shown c.in-Entries.lines.now in
     record {
-      showing = c.in-ok-put-lines-2.ensures.showing ∙ p.0 ∙ ap (λ (a : Answer). showing_of (told a)) (sym c.in-Entries.is);
-      text = c.in-ok-put-lines-2.ensures.text ∙ ap (λ (s : List ℕ). vec_items c.args.out.now ++ s) (p.1 ∙ ap (λ (a : Answer). shown_if (told a)) (sym c.in-Entries.is));
+      showing = c.in_ok-put_lines-in-Entries.ensures.showing ∙ p.0 ∙ ap (λ (a : Answer). showing_of (told a)) (sym c.in-Entries.is);
+      text = c.in_ok-put_lines-in-Entries.ensures.text ∙ ap (λ (s : List ℕ). vec_items c.args.out.now ++ s) (p.1 ∙ ap (λ (a : Answer). shown_if (told a)) (sym c.in-Entries.is));
     }

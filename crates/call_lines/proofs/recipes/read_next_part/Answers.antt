@@ -6,9 +6,9 @@ pub returns-then-count-eq0 : goal.returns-then-count-eq0
 unfolding next_part
 returns-then-count-eq0 c = search rules
 
-pub returns-in-err-rest : goal.returns-in-err-rest
+pub returns-in_err-rest : goal.returns-in_err-rest
 unfolding next_part
-returns-in-err-rest c = search rules
+returns-in_err-rest c = search rules
 
 pub returns : goal.returns
 unfolding next_part

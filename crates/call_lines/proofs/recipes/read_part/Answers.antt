@@ -2,25 +2,25 @@ use Rattle.std.proofs.Common.{rules}
 use Rattle.call_lines.specs.Recipes.{part}
 use Rattle.call_lines.proofs.recipes.read_part.Goals as goal
 
-pub returns-in-err-rest : goal.returns-in-err-rest
+pub returns-in_err-rest : goal.returns-in_err-rest
 unfolding part
-returns-in-err-rest c = search rules
+returns-in_err-rest c = search rules
 
-pub returns-in-err-item : goal.returns-in-err-item
+pub returns-in_err-item : goal.returns-in_err-item
 unfolding part
-returns-in-err-item c = search rules
+returns-in_err-item c = search rules
 
-pub returns-in-err-rest-2 : goal.returns-in-err-rest-2
+pub returns-in_err-rest-2 : goal.returns-in_err-rest-2
 unfolding part
-returns-in-err-rest-2 c = search rules
+returns-in_err-rest-2 c = search rules
 
-pub returns-in-err-each : goal.returns-in-err-each
+pub returns-in_err-each : goal.returns-in_err-each
 unfolding part
-returns-in-err-each c = search rules
+returns-in_err-each c = search rules
 
-pub returns-in-err-rest-3 : goal.returns-in-err-rest-3
+pub returns-in_err-rest-3 : goal.returns-in_err-rest-3
 unfolding part
-returns-in-err-rest-3 c = search rules
+returns-in_err-rest-3 c = search rules
 
 pub returns : goal.returns
 unfolding part

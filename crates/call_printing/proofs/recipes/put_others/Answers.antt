@@ -4,9 +4,9 @@ use Rattle.call_printing.proofs.recipes.put_others.Goals as goal
 
 pub loop-part-preserved : goal.loop-part-preserved
 loop-part-preserved c =
-    parts_more (vec_items c.loop-part.out) (vec_items c.extend-from-slice.new.self) (vec_items c.put_part.new.out) c.loop-part.rest.now c.in-Some.part
-    c.in-Some.ensures c.in-ok-extend-from-slice.ensures.items c.in-ok-put-part.ensures
+    parts_more (vec_items c.loop-part.out) (vec_items c.extend_from_slice.new.self) (vec_items c.put_part.new.out) c.loop-part.rest.now c.in-Some.part
+    c.in-Some.ensures c.in_ok-extend_from_slice.ensures.items c.in_ok-put_part.ensures
     ∙ c.loop-part.invariant
 
 pub returns : goal.returns
-returns c = parts_done (vec_items c.loop-part.out) _ c.loop-part.rest.now c.in-default.ensures c.loop-part.invariant
+returns c = parts_done (vec_items c.loop-part.out) _ c.loop-part.rest.now c.in_default.ensures c.loop-part.invariant

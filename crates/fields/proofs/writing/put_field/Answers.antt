@@ -6,4 +6,4 @@ use Rattle.fields.proofs.writing.put_field.Goals as goal
 pub returns : goal.returns
 returns c =
     let k : (c.args.at + 8) - c.args.at ≡ 8 = omega arith in
-    simp k (ap (put_mid c.args.at 8 c.args.out.now) (c.copy-from-slice.ensures.after ∙ c.to-le-bytes.ensures ∙ sym (field_bytes_are c.args.n)))
+    simp k (ap (put_mid c.args.at 8 c.args.out.now) (c.copy_from_slice.ensures.after ∙ c.to_le_bytes.ensures ∙ sym (field_bytes_are c.args.n)))

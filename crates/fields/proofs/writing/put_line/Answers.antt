@@ -14,4 +14,4 @@ pub returns : goal.returns
 returns c =
     line_fits (all_fields (c.args.a ∷ (c.args.b ∷ (c.args.c ∷ (c.args.d ∷ []))))) c.args.out.now _ c.args.k _
     (length_fields (c.args.a ∷ (c.args.b ∷ (c.args.c ∷ (c.args.d ∷ []))))) (omega arith) (omega arith)
-    (ap (λ (xs : List ℕ). put_mid (9 + 32 * c.args.k) (9 + 32 * c.args.k + 32 - (9 + 32 * c.args.k)) c.args.out.now xs) c.fill-row.ensures)
+    (ap (λ (xs : List ℕ). put_mid (9 + 32 * c.args.k) (9 + 32 * c.args.k + 32 - (9 + 32 * c.args.k)) c.args.out.now xs) c.fill_row.ensures)

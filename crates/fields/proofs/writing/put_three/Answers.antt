@@ -4,11 +4,11 @@ use Rattle.fields.proofs.Numbers.{length_fields}
 use Rattle.fields.proofs.Rows.{too_long, put_three}
 use Rattle.fields.proofs.writing.put_three.Goals as goal
 
-pub returns-then-out-lt-THREE-FIELDS : goal.returns-then-out-lt-THREE-FIELDS
-returns-then-out-lt-THREE-FIELDS c =
+pub returns-then-out-lt-THREE_FIELDS : goal.returns-then-out-lt-THREE_FIELDS
+returns-then-out-lt-THREE_FIELDS c =
     too_long (c.args.kind ∷ all_fields (c.args.a ∷ (c.args.b ∷ (c.args.c ∷ [])))) c.args.out.now 25 (ap suc (length_fields (c.args.a ∷ (c.args.b ∷ (c.args.c ∷ []))))) (omega arith)
 
 pub returns : goal.returns
 returns c =
-    put_three c.args.out.now c.put-field.new.out c.put-field-2.new.out c.put-field-3.new.out c.args.kind c.args.a c.args.b c.args.c (omega arith)
-    c.put-field.ensures c.put-field-2.ensures c.put-field-3.ensures
+    put_three c.args.out.now c.put_field.new.out c.put_field-2.new.out c.put_field-3.new.out c.args.kind c.args.a c.args.b c.args.c (omega arith)
+    c.put_field.ensures c.put_field-2.ensures c.put_field-3.ensures

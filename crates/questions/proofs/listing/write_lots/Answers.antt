@@ -8,7 +8,7 @@ use Rattle.questions.proofs.listing.write_lots.Goals as goal
 
 pub returns : goal.returns
 returns c =
-    let room : answer_need c.args.limits ≤ length c.args.answer.now = omega (arith, c.if-answer-answer-need.false, c.answer-need.ensures) in
-    listed_whole c.args.limits (lots_met c.args.limits c.args.item (state c.args.wide.now c.args.narrow.now)) c.put-lots-count.result
-    c.args.answer.now c.put-lots-count.new.answer c.begin-lots.new.out c.put-lots-count.ensures.count c.put-lots-count.ensures.few room
-    c.put-lots-count.ensures.lines (ap (λ (w : Written). w.left) c.begin-lots.ensures)
+    let room : answer_need c.args.limits ≤ length c.args.answer.now = omega (arith, c.if-answer-answer_need.false, c.answer_need.ensures) in
+    listed_whole c.args.limits (lots_met c.args.limits c.args.item (state c.args.wide.now c.args.narrow.now)) c.put_lots-count.result
+    c.args.answer.now c.put_lots-count.new.answer c.begin_lots.new.out c.put_lots-count.ensures.count c.put_lots-count.ensures.few room
+    c.put_lots-count.ensures.lines (ap (λ (w : Written). w.left) c.begin_lots.ensures)

@@ -39,6 +39,6 @@ pub returns-in-8 : goal.returns-in-8
 unfolding account_name
 returns-in-8 c = ap (λ a. account_name a) (sym c.in-8.is)
 
-pub returns-in-default : goal.returns-in-default
+pub returns-in_default : goal.returns-in_default
 unfolding account_name
-returns-in-default c = sym (get_or_past account_names c.args.account [] (omega arith))
+returns-in_default c = sym (get_or_past account_names c.args.account [] (omega arith))

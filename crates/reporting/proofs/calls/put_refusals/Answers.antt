@@ -8,8 +8,8 @@ loop-number-init c = rows_none (λ n. by_shown (get_or c.args.tally.by n 0) n) (
 
 pub loop-number-preserved : goal.loop-number-preserved
 loop-number-preserved c =
-    rows_next (λ n. by_shown (get_or c.args.tally.by n 0) n) c.loop-number.number (vec_items c.args.out.now) (vec_items c.loop-number.out) (vec_items c.put-by.new.out) c.loop-number.invariant
-    c.in-ok-put-by.ensures
+    rows_next (λ n. by_shown (get_or c.args.tally.by n 0) n) c.loop-number.number (vec_items c.args.out.now) (vec_items c.loop-number.out) (vec_items c.put_by.new.out) c.loop-number.invariant
+    c.in_ok-put_by.ensures
 
 pub returns : goal.returns
 returns c =

@@ -10,8 +10,8 @@ loop-c-init c = sym (append-nil (vec_items c.args.out.now))
 
 pub loop-c-preserved : goal.loop-c-preserved
 loop-c-preserved c =
-    joined_next cell_of c.args.row.now (record { width = 0; number = 0 }) c.loop-c.c-index (vec_items c.args.out.now) (vec_items c.loop-c.out) (vec_items c.put-cell.new.out) c.loop-c-test.true c.loop-c.invariant
-    c.in-ok-put-cell.ensures
+    joined_next cell_of c.args.row.now (record { width = 0; number = 0 }) c.loop-c.c-index (vec_items c.args.out.now) (vec_items c.loop-c.out) (vec_items c.put_cell.new.out) c.loop-c-test.true c.loop-c.invariant
+    c.in_ok-put_cell.ensures
 
 pub returns : goal.returns
 returns c =

@@ -7,4 +7,4 @@ loop-turn-init c = sym (append-nil (vec_items c.args.out.now))
 
 pub loop-turn-preserved : goal.loop-turn-preserved
 loop-turn-preserved c =
-    spaces_more (vec_items c.args.out.now) (vec_items c.loop-turn.out) (vec_items c.push.new.self) c.loop-turn.-turn 32 c.loop-turn.invariant c.in-ok-push.ensures.items
+    spaces_more (vec_items c.args.out.now) (vec_items c.loop-turn.out) (vec_items c.push.new.self) c.loop-turn._turn 32 c.loop-turn.invariant c.in_ok-push.ensures.items

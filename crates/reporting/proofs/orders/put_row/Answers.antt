@@ -8,9 +8,9 @@ use Rattle.reporting.proofs.orders.put_row.Goals as goal
 pub returns : goal.returns
 unfolding order_row
 returns c =
-    two_more (vec_items c.args.out.now) (vec_items c.put-cell.new.out) (vec_items c.extend-from-slice.new.self) (cell 6 c.args.number)
-    (aligned 6 (kind (order_of c.args.order)) ++ (cells (order_cells (order_of c.args.order)) ++ codes "\n")) c.in-ok-put-cell.ensures
-    (two_more (vec_items c.put-cell.new.out) (vec_items c.put-aligned.new.out) (vec_items c.extend-from-slice.new.self) (aligned 6 (kind (order_of c.args.order))) (cells (order_cells (order_of c.args.order)) ++ codes "\n")
-    (c.in-ok-put-aligned.ensures ∙ ap (λ (s : List ℕ). vec_items c.put-cell.new.out ++ aligned 6 s) c.kind.ensures)
-    (two_more (vec_items c.put-aligned.new.out) (vec_items c.put-cells.new.out) (vec_items c.extend-from-slice.new.self) (cells (order_cells (order_of c.args.order))) (codes "\n") c.in-ok-put-cells.ensures
-    c.in-ok-extend-from-slice.ensures.items))
+    two_more (vec_items c.args.out.now) (vec_items c.put_cell.new.out) (vec_items c.extend_from_slice.new.self) (cell 6 c.args.number)
+    (aligned 6 (kind (order_of c.args.order)) ++ (cells (order_cells (order_of c.args.order)) ++ codes "\n")) c.in_ok-put_cell.ensures
+    (two_more (vec_items c.put_cell.new.out) (vec_items c.put_aligned.new.out) (vec_items c.extend_from_slice.new.self) (aligned 6 (kind (order_of c.args.order))) (cells (order_cells (order_of c.args.order)) ++ codes "\n")
+    (c.in_ok-put_aligned.ensures ∙ ap (λ (s : List ℕ). vec_items c.put_cell.new.out ++ aligned 6 s) c.kind.ensures)
+    (two_more (vec_items c.put_aligned.new.out) (vec_items c.put_cells.new.out) (vec_items c.extend_from_slice.new.self) (cells (order_cells (order_of c.args.order))) (codes "\n") c.in_ok-put_cells.ensures
+    c.in_ok-extend_from_slice.ensures.items))

@@ -13,6 +13,6 @@ returns-then-pieces-eq0 c =
 pub returns : goal.returns
 unfolding stock_row
 returns c =
-    two_more (vec_items c.args.out.now) (vec_items c.put-cells.new.out) (vec_items c.extend-from-slice.new.self) (cells (stock_cells c.args.item c.args.pieces c.args.worth)) (codes "\n")
-    c.in-ok-put-cells.ensures c.in-ok-extend-from-slice.ensures.items
+    two_more (vec_items c.args.out.now) (vec_items c.put_cells.new.out) (vec_items c.extend_from_slice.new.self) (cells (stock_cells c.args.item c.args.pieces c.args.worth)) (codes "\n")
+    c.in_ok-put_cells.ensures c.in_ok-extend_from_slice.ensures.items
     ∙ ap (λ (s : List ℕ). vec_items c.args.out.now ++ s) (sym (cond-false (eqb c.args.pieces 0) [] (cells (stock_cells c.args.item c.args.pieces c.args.worth) ++ codes "\n") (ne_eqb c.args.pieces 0 c.if-pieces-eq0.false)))

@@ -16,6 +16,6 @@ returns-in-MadeOf c =
     record {
       memory = sym (ap (λ (o : Outcome). o.left) e);
       bytes =
-          subst (λ (o : Outcome). Said o.answer c.say-refused.result c.args.out.now c.say-refused.new.out) (sym e)
-          (subst (λ a. Said a c.say-refused.result c.args.out.now c.say-refused.new.out) (c.first.ensures ∙ ap (λ (n : ℕ). refused n 0) c.recipe-refusal.ensures) c.say-refused.ensures);
+          subst (λ (o : Outcome). Said o.answer c.say_refused.result c.args.out.now c.say_refused.new.out) (sym e)
+          (subst (λ a. Said a c.say_refused.result c.args.out.now c.say_refused.new.out) (c.first.ensures ∙ ap (λ (n : ℕ). refused n 0) c.recipe_refusal.ensures) c.say_refused.ensures);
     }

@@ -8,20 +8,20 @@ use Rattle.wire.specs.Said.{said}
 
 pub returns-then-not-holds : goal.returns-then-not-holds
 returns-then-not-holds c =
-    record { does = called_not (call_of c.args.call.now) (state c.args.wide.now c.args.narrow.now) c.args.answer-bytes.now c.limits-in-limits.result c.limits-in-limits.ensures c.if-not-holds.ensures.exact; fits = tt }
+    record { does = called_not (call_of c.args.call.now) (state c.args.wide.now c.args.narrow.now) c.args.answer_bytes.now c.limits_in-limits.result c.limits_in-limits.ensures c.if-not-holds.ensures.exact; fits = tt }
 
 pub returns-in-Ok : goal.returns-in-Ok
 returns-in-Ok c =
     record {
-      does = called_does (call_of c.args.call.now) (said c.in-Ok.call) (state c.args.wide.now c.args.narrow.now) (state c.answer.new.wide c.answer.new.narrow) c.args.answer-bytes.now c.answer.new.out
-          c.limits-in-limits.result c.answer.result c.limits-in-limits.ensures c.if-not-holds.ensures.exact c.in-Ok.ensures c.answer.ensures.memory c.answer.ensures.bytes;
+      does = called_does (call_of c.args.call.now) (said c.in-Ok.call) (state c.args.wide.now c.args.narrow.now) (state c.answer.new.wide c.answer.new.narrow) c.args.answer_bytes.now c.answer.new.out
+          c.limits_in-limits.result c.answer.result c.limits_in-limits.ensures c.if-not-holds.ensures.exact c.in-Ok.ensures c.answer.ensures.memory c.answer.ensures.bytes;
       fits = c.answer.ensures.bytes.fits;
     }
 
 pub returns-in-Err : goal.returns-in-Err
 returns-in-Err c =
     record {
-      does = called_does (call_of c.args.call.now) (garbled c.in-Err.place) (state c.args.wide.now c.args.narrow.now) (state c.args.wide.now c.args.narrow.now) c.args.answer-bytes.now c.say-unreadable.new.out
-          c.limits-in-limits.result c.say-unreadable.result c.limits-in-limits.ensures c.if-not-holds.ensures.exact c.in-Err.ensures refl c.say-unreadable.ensures;
-      fits = c.say-unreadable.ensures.fits;
+      does = called_does (call_of c.args.call.now) (garbled c.in-Err.place) (state c.args.wide.now c.args.narrow.now) (state c.args.wide.now c.args.narrow.now) c.args.answer_bytes.now c.say_unreadable.new.out
+          c.limits_in-limits.result c.say_unreadable.result c.limits_in-limits.ensures c.if-not-holds.ensures.exact c.in-Err.ensures refl c.say_unreadable.ensures;
+      fits = c.say_unreadable.ensures.fits;
     }

@@ -17,8 +17,8 @@ returns c =
     let known = some_item (ltb c.args.item c.args.limits.items) c.args.item c.in-Some.item c.in-Some.ensures in
     let ls = lots_met c.args.limits c.in-Some.item s in
     let room : length (bytes_of_answer (lots ls)) ≤ length c.args.out.now = omega (arith, c.requires, lots_long ls, met_few c.args.limits c.in-Some.item s) in
-    let said : Said (lots ls) c.taken.result c.args.out.now c.write-lots.new.answer =
-    said_by (lots ls) c.write-lots.result c.taken.result c.args.out.now c.write-lots.new.answer room
-    (c.write-lots.ensures ∙ cond-true (leb (answer_need c.args.limits) (length c.args.out.now)) _ _ (le-leb _ _ c.requires)) c.taken.ensures in
-    subst (λ (a : Answer). Said a c.taken.result c.args.out.now c.write-lots.new.answer)
+    let said : Said (lots ls) c.taken.result c.args.out.now c.write_lots.new.answer =
+    said_by (lots ls) c.write_lots.result c.taken.result c.args.out.now c.write_lots.new.answer room
+    (c.write_lots.ensures ∙ cond-true (leb (answer_need c.args.limits) (length c.args.out.now)) _ _ (le-leb _ _ c.requires)) c.taken.ensures in
+    subst (λ (a : Answer). Said a c.taken.result c.args.out.now c.write_lots.new.answer)
     (ap (λ (i : ℕ). lots (lots_met c.args.limits i s)) known.1 ∙ sym (cond-true (ltb c.args.item c.args.limits.items) _ _ known.0)) said

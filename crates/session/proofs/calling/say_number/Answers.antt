@@ -7,6 +7,6 @@ use Rattle.session.proofs.calling.say_number.Goals as goal
 
 pub returns-in-Ok : goal.returns-in-Ok
 returns-in-Ok c =
-    subst (λ r. Said (numbered r) c.taken.result c.args.out.now c.write-number.new.out) (sym c.in-Ok.is)
-    (said_by (number c.in-Ok.n) c.write-number.result c.taken.result c.args.out.now c.write-number.new.out
-    (omega (arith, c.requires, number_long c.in-Ok.n)) c.write-number.ensures c.taken.ensures)
+    subst (λ r. Said (numbered r) c.taken.result c.args.out.now c.write_number.new.out) (sym c.in-Ok.is)
+    (said_by (number c.in-Ok.n) c.write_number.result c.taken.result c.args.out.now c.write_number.new.out
+    (omega (arith, c.requires, number_long c.in-Ok.n)) c.write_number.ensures c.taken.ensures)

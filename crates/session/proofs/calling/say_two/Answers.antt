@@ -7,6 +7,6 @@ use Rattle.session.proofs.calling.say_two.Goals as goal
 
 pub returns-in-Ok : goal.returns-in-Ok
 returns-in-Ok c =
-    subst (λ r. Said (paired r) c.taken.result c.args.out.now c.write-two.new.out) (sym c.in-Ok.is)
-    (said_by (two c.in-Ok.a c.in-Ok.b) c.write-two.result c.taken.result c.args.out.now c.write-two.new.out
-    (omega (arith, c.requires, two_long c.in-Ok.a c.in-Ok.b)) c.write-two.ensures c.taken.ensures)
+    subst (λ r. Said (paired r) c.taken.result c.args.out.now c.write_two.new.out) (sym c.in-Ok.is)
+    (said_by (two c.in-Ok.a c.in-Ok.b) c.write_two.result c.taken.result c.args.out.now c.write_two.new.out
+    (omega (arith, c.requires, two_long c.in-Ok.a c.in-Ok.b)) c.write_two.ensures c.taken.ensures)

@@ -1,5 +1,5 @@
 use Rattle.session.proofs.Keeping.{all_steps}
 use Rattle.session.proofs.promises.answers_are_right.Goals as goal
 
-pub right-by-steps-requires : goal.right-by-steps-requires
-right-by-steps-requires c = all_steps
+pub right_by_steps-requires : goal.right_by_steps-requires
+right_by_steps-requires c = all_steps

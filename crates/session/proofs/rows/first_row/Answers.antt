@@ -3,9 +3,9 @@ use Rattle.session.proofs.Framing.{Cut, cut_short, cut_short_less, cut_rows, cut
 use Rattle.session.proofs.rows.first_row.Goals as goal
 use Rattle.session.proofs.rows.first_row.Goals.{then-size-body, else-size-body}
 
-pub returns-in-default : goal.returns-in-default
-returns-in-default c =
-    let short = leading_none c.args.bytes.now c.in-default.ensures in
+pub returns-in_default : goal.returns-in_default
+returns-in_default c =
+    let short = leading_none c.args.bytes.now c.in_default.ensures in
     record {
       rows = λ gt. cut_short c.args.bytes.now (length c.args.bytes.now) refl short gt;
       shorter = λ gt. cut_short_less c.args.bytes.now (length c.args.bytes.now) refl gt;

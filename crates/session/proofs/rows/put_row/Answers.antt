@@ -5,7 +5,7 @@ use Rattle.session.proofs.rows.put_row.Goals as goal
 
 pub returns : goal.returns
 returns c =
-    c.in-ok-extend-from-slice-2.ensures.items
+    c.in_ok-extend_from_slice-2.ensures.items
     ∙ ap (λ (x : List ℕ). x ++ c.args.row.now)
-    (c.in-ok-extend-from-slice.ensures.items ∙ ap (λ (x : List ℕ). vec_items c.args.out.now ++ x) (c.to-le-bytes-size.ensures ∙ sym (field_bytes_are (length c.args.row.now))))
+    (c.in_ok-extend_from_slice.ensures.items ∙ ap (λ (x : List ℕ). vec_items c.args.out.now ++ x) (c.to_le_bytes-size.ensures ∙ sym (field_bytes_are (length c.args.row.now))))
     ∙ append_assoc (vec_items c.args.out.now) (field_bytes (length c.args.row.now)) c.args.row.now

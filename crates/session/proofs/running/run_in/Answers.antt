@@ -26,7 +26,7 @@ loop-rest-preserved c =
     going_on (limits_in c.open.new.narrow) c.args.calls.now (state c.loop-rest.wide c.loop-rest.narrow) c.loop-rest.rest.now (vec_items c.loop-rest.out)
     c.first_row.result.0.now c.first_row.result.1.now c.loop-rest.answer good c.loop-rest.invariant room
     (state c.answer_row.new.wide c.answer_row.new.narrow) c.answer_row.new.answer (vec_items c.answer_row.new.out)
-    (c.first_row.ensures.rows (omega (arith, c.loop-rest-test.true))) c.in-ok-answer-row.ensures
+    (c.first_row.ensures.rows (omega (arith, c.loop-rest-test.true))) c.in_ok-answer_row.ensures
 
 pub returns : goal.returns
 returns c =

@@ -9,5 +9,5 @@ invariant-wants l =
 
 abbrev pub invariant-loop-line : goal.invariant-loop-line
 invariant-loop-line l =
-    RowSoFar l.limits l.want.item l.want.pieces (state l.initial.wide l.initial.narrow) (tally l.initial.answer l.initial.taken) l.-line l.left (state l.wide l.narrow)
+    RowSoFar l.limits l.want.item l.want.pieces (state l.initial.wide l.initial.narrow) (tally l.initial.answer l.initial.taken) l._line l.left (state l.wide l.narrow)
     (tally l.answer l.taken)

@@ -8,7 +8,7 @@ unfolding shown digits
 returns c =
     record {
       text =
-          c.in-ok-put-number.ensures ∙ ap (λ x. x ++ decimal c.args.place) c.in-ok-extend-from-slice.ensures.items
+          c.in_ok-put_number.ensures ∙ ap (λ x. x ++ decimal c.args.place) c.in_ok-extend_from_slice.ensures.items
           ∙ append_assoc (vec_items c.args.out.now) (codes "refused 1 at ") (decimal c.args.place);
       tally = c.note.ensures;
     }

@@ -11,13 +11,13 @@ loop-rest-init c = begins c.args.text.now (state c.args.wide.now c.args.narrow.n
 
 pub loop-rest-preserved : goal.loop-rest-preserved
 loop-rest-preserved c =
-    goes_on c.args.text.now (state c.args.wide.now c.args.narrow.now) (state c.loop-rest.wide c.loop-rest.narrow) (state c.answer-if-heard.new.wide c.answer-if-heard.new.narrow) (length c.args.answer.now)
-    c.loop-rest.rest.now c.first-line.result.0.now c.first-line.result.1.now (log (vec_items c.args.out.now) c.args.tally.now) (log (vec_items c.loop-rest.out) c.loop-rest.tally)
-    (log (vec_items c.answer-if-heard.new.out) c.answer-if-heard.new.tally) c.loop-rest.invariant
-    c.first-line.ensures.parts
+    goes_on c.args.text.now (state c.args.wide.now c.args.narrow.now) (state c.loop-rest.wide c.loop-rest.narrow) (state c.answer_if_heard.new.wide c.answer_if_heard.new.narrow) (length c.args.answer.now)
+    c.loop-rest.rest.now c.first_line.result.0.now c.first_line.result.1.now (log (vec_items c.args.out.now) c.args.tally.now) (log (vec_items c.loop-rest.out) c.loop-rest.tally)
+    (log (vec_items c.answer_if_heard.new.out) c.answer_if_heard.new.tally) c.loop-rest.invariant
+    c.first_line.ensures.parts
     (subst
-    (λ (room : ℕ). CallsDone (calls_in (heard c.first-line.result.0.now)) (state c.loop-rest.wide c.loop-rest.narrow) (state c.answer-if-heard.new.wide c.answer-if-heard.new.narrow) room (log (vec_items c.loop-rest.out) c.loop-rest.tally) (log (vec_items c.answer-if-heard.new.out) c.answer-if-heard.new.tally))
-    c.loop-rest.auto.answer c.in-ok-answer-if-heard.ensures)
+    (λ (room : ℕ). CallsDone (calls_in (heard c.first_line.result.0.now)) (state c.loop-rest.wide c.loop-rest.narrow) (state c.answer_if_heard.new.wide c.answer_if_heard.new.narrow) room (log (vec_items c.loop-rest.out) c.loop-rest.tally) (log (vec_items c.answer_if_heard.new.out) c.answer_if_heard.new.tally))
+    c.loop-rest.auto.answer c.in_ok-answer_if_heard.ensures)
 
 pub returns : goal.returns
 returns c =

@@ -7,6 +7,6 @@ use Rattle.text.proofs.running.run.Goals as goal
 pub returns : goal.returns
 unfolding ran
 returns c =
-    let opened = c.in-ok-books.ensures in
-    let told = c.in-ok-answer.ensures (books_limits c.args.limits) new_firm opened.1.keeps in
+    let opened = c.in_ok-books.ensures in
+    let told = c.in_ok-answer.ensures (books_limits c.args.limits) new_firm opened.1.keeps in
     (opened.0, told.1.text ∙ ap (λ (x : List ℕ). x ++ printed (answers (books_limits c.args.limits) new_firm (calls c.args.text.now))) c.new-out.ensures.items)

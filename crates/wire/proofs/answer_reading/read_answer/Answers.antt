@@ -7,4 +7,4 @@ returns-then-bytes-eq0 c = no_answer c.args.bytes.now c.if-bytes-eq0.true
 
 pub returns : goal.returns
 unfolding answer_of
-returns c = c.read-answer-as.ensures
+returns c = c.read_answer_as.ensures

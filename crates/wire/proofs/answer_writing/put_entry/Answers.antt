@@ -3,4 +3,4 @@ use Rattle.wire.proofs.answer_writing.put_entry.Goals as goal
 
 pub returns : goal.returns
 unfolding entry_bytes
-returns c = c.put-line.ensures
+returns c = c.put_line.ensures

@@ -3,4 +3,4 @@ use Rattle.wire.proofs.answer_writing.put_lot.Goals as goal
 
 pub returns : goal.returns
 unfolding lot_bytes
-returns c = c.put-line.ensures
+returns c = c.put_line.ensures

@@ -7,4 +7,4 @@ returns-then-bytes-eq0 c = no_bytes c.args.bytes.now c.if-bytes-eq0.true
 
 pub returns : goal.returns
 unfolding call_of
-returns c = c.read-as.ensures
+returns c = c.read_as.ensures

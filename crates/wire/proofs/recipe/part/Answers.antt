@@ -2,8 +2,8 @@ use Rattle.std.proofs.Common.{Some, None}
 use Rattle.wire.proofs.RowLaws.{part_is}
 use Rattle.wire.proofs.recipe.part.Goals as goal
 
-pub returns-in-err-item : goal.returns-in-err-item
-returns-in-err-item c = rw c.from-residual.ensures (part_is c.args.parts.now c.args.k None c.in-err-item.ensures)
+pub returns-in_err-item : goal.returns-in_err-item
+returns-in_err-item c = rw c.from_residual.ensures (part_is c.args.parts.now c.args.k None c.in_err-item.ensures)
 
 pub returns : goal.returns
-returns c = part_is c.args.parts.now c.args.k (Some (c.in-ok-item.item, c.in-ok-item.each)) c.in-ok-item.ensures
+returns c = part_is c.args.parts.now c.args.k (Some (c.in_ok-item.item, c.in_ok-item.each)) c.in_ok-item.ensures

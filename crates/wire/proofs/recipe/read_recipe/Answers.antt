@@ -6,5 +6,5 @@ use Rattle.wire.proofs.recipe.read_recipe.Goals as goal
 
 pub returns : goal.returns
 returns c =
-    recipe_is c.args.bytes.now _ c.in-ok-item.item (omega arith) (omega (arith, c.type-inv.bytes 9)) (take_rest c.args.bytes.now 10)
-    (first_is c.args.bytes.now c.in-ok-item.item (omega arith) c.in-ok-item.ensures)
+    recipe_is c.args.bytes.now _ c.in_ok-item.item (omega arith) (omega (arith, c.type_inv.bytes 9)) (take_rest c.args.bytes.now 10)
+    (first_is c.args.bytes.now c.in_ok-item.item (omega arith) c.in_ok-item.ensures)

@@ -15,7 +15,7 @@ loop-m-preserved c =
     )
 
 pub returns : goal.returns
-returns c = c.in-ok-extend-from-slice.ensures.items
+returns c = c.in_ok-extend_from_slice.ensures.items
     ∙ ap (λ (x : List ℕ). vec_items c.args.out.now ++ x)
     (between_to_end (set c.loop-m.digits (c.loop-m.i - 1) (48 + c.loop-m.m)) (c.loop-m.i - 1) 20 (omega (arith, length-set c.loop-m.digits (c.loop-m.i - 1) (48 + c.loop-m.m)))
     ∙ last_digit c.loop-m.digits c.loop-m.i c.loop-m.m _ c.loop-m-test.false (omega arith) (omega arith) c.loop-m.invariant.5)

@@ -11,8 +11,8 @@ mark_well m s [] e h f = absurd (omega arith)
 mark_well m s (c ∷ cs) e h f = sym (cond-true _ _ _ (eq-eqb _ _ f)) ∙ ap (mark_at m) e
 
 pub returns-then-at-wanted : goal.returns-then-at-wanted
-returns-then-at-wanted c = ap Ok (take_rest c.skip-blanks-at.result.now 1)
-    ∙ mark_well c.args.wanted c.args.line.now c.skip-blanks-at.result.now c.skip-blanks-at.ensures c.if-at-gt0.true c.if-at-wanted.true
+returns-then-at-wanted c = ap Ok (take_rest c.skip_blanks-at.result.now 1)
+    ∙ mark_well c.args.wanted c.args.line.now c.skip_blanks-at.result.now c.skip_blanks-at.ensures c.if-at-gt0.true c.if-at-wanted.true
 
 pub returns-else-at-gt0 : goal.returns-else-at-gt0
 unfolding mark

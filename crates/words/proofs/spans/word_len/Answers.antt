@@ -5,13 +5,13 @@ use Rattle.words.proofs.spans.word_len.Goals as goal
 pub loop-i-preserved : goal.loop-i-preserved
 loop-i-preserved c =
     let h = c.loop-i-test.true in
-    let e = sym c.if-not-is-gap.ensures in
+    let e = sym c.if-not-is_gap.ensures in
     (omega arith, word_more c.args.line.now c.loop-i.i h e ∙ c.loop-i.invariant.1, past_more c.args.line.now c.loop-i.i h e ∙ c.loop-i.invariant.2)
 
-pub returns-else-not-is-gap : goal.returns-else-not-is-gap
-returns-else-not-is-gap c =
+pub returns-else-not-is_gap : goal.returns-else-not-is_gap
+returns-else-not-is_gap c =
     let h = c.loop-i-test.true in
-    let e = sym c.if-not-is-gap.ensures in
+    let e = sym c.if-not-is_gap.ensures in
     record {
       within = c.loop-i.invariant.0;
       front = word_taken c.args.line.now _ _ c.loop-i.i c.loop-i.invariant.1 (word_stop c.args.line.now c.loop-i.i h e);

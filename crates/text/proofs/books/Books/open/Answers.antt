@@ -5,4 +5,4 @@ use Rattle.text.proofs.books.Books.open.Goals as goal
 pub returns : goal.returns
 returns c =
     let good : is_good c.args.limits ≡ true = search rules in
-    (good, c.in-ok-books.ensures)
+    (good, c.in_ok-books.ensures)

@@ -11,7 +11,7 @@ pub returns : goal.returns
 returns c =
     record {
       keeps =
-          keeps_lent (books_limits c.args.limits) new_firm c.in-ok-wide.wide c.in-ok-narrow.narrow c.open-in.new.wide c.open-in.new.narrow (answer_need c.args.limits) (length (vec_items c.in-ok-answer.answer))
-          (omega (arith, c.open-in.auto.wide, c.deref-mut.ensures.len)) (omega (arith, c.open-in.auto.narrow, c.deref-mut-2.ensures.len)) (omega (arith, c.in-ok-answer.ensures.made)) c.open-in.ensures;
+          keeps_lent (books_limits c.args.limits) new_firm c.in_ok-wide.wide c.in_ok-narrow.narrow c.open_in.new.wide c.open_in.new.narrow (answer_need c.args.limits) (length (vec_items c.in_ok-answer.answer))
+          (omega (arith, c.open_in.auto.wide, c.deref_mut.ensures.len)) (omega (arith, c.open_in.auto.narrow, c.deref_mut-2.ensures.len)) (omega (arith, c.in_ok-answer.ensures.len)) c.open_in.ensures;
       tally = c.new-2.ensures;
     }
