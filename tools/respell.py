@@ -95,6 +95,8 @@ def turn_code(text, new):
 
 
 def main():
+    if sys.argv[1:] not in ([], ["--dry"]):
+        sys.exit("usage: tools/respell.py [--dry]")
     top, dry = os.getcwd(), "--dry" in sys.argv[1:]
     new = declared(top)
     if dry:
