@@ -2,9 +2,9 @@
 
 #![tactic(auto)]
 
+mod error;
 mod quads;
 mod show;
-mod showing;
 
+pub use error::ShowError;
 pub use show::{answers_shown_stands, show_answer};
-pub use showing::Showing;

@@ -1,69 +1,67 @@
 //! An answer's bytes as a line of text.
 
-ghost use Rattle.std.specs.Prelude.{◌≡◌, ◌++◌, IfOk, OnOk};
+ghost use Rattle.std.specs.Prelude.{◌≡◌, ◌++◌, OnOk};
 ghost use Rattle.wire.specs.Answers.{answer_of};
-ghost use Rattle.wire.specs.Told.{told};
+ghost use Rattle.wire.specs.Told.{refusal_number, told};
 ghost use Rattle.answer_lines.specs.Shown.{shown_refusal};
-ghost use Rattle.answer_lines.specs.Showings.{lines_shown, lines_showing, shown_if, showing_of, AnswersShown};
+ghost use Rattle.answer_lines.specs.Showings.{lines_shown, lines_showing, shown_if, showing_of, OnMemory, AnswersShown};
 
-use crate::quads::{put_quads, put_two};
-use crate::showing::Showing;
+use crate::error::ShowError;
+use crate::quads::put_quads;
 use fields::ROW_OF_FOUR;
 use std::alloc::AllocError;
-use wire::{Answer, read_answer, refusal_number};
-use words::put_number;
+use wire::{Answer, Refusal, read_answer};
+use words::{put_number, put_numbers};
 
-fn put_refusal(out: &mut Vec<u8>, number: u64, place: u64) -> Result<(), AllocError>
-    ensures { OnOk result (out.new.items ≡ out.old.items ++ shown_refusal number place) }
+fn put_refusal(out: &mut Vec<u8>, refusal: Refusal, place: u64) -> Result<(), AllocError>
+    ensures { OnOk result (out.new.items ≡ out.old.items ++ shown_refusal (refusal_number refusal) place) }
 {
     out.extend_from_slice(b"refused ")?;
-    put_number(out, number)?;
+    put_number(out, refusal.into())?;
     out.extend_from_slice(b" at ")?;
     put_number(out, place)?;
     Ok(())
 }
 
 // Appends the lines of a list; nothing where they are not whole.
-fn put_lines(out: &mut Vec<u8>, lines: &[u8]) -> Result<Showing, AllocError>
-    ensures showing { IfOk result (λ x. x ≡ lines_showing lines.now) }
-    ensures text { OnOk result (out.new.items ≡ out.old.items ++ lines_shown lines.now) }
+fn put_lines(out: &mut Vec<u8>, lines: &[u8]) -> Result<(), ShowError>
+    ensures showing { OnMemory result (result ≡ lines_showing lines.now) }
+    ensures text { OnMemory result (out.new.items ≡ out.old.items ++ lines_shown lines.now) }
 {
     if lines.len() % ROW_OF_FOUR != 0 {
-        return Ok(Showing::NoAnswer);
+        return Err(ShowError::NoAnswer);
     }
     put_quads(out, lines)?;
-    Ok(Showing::Shown)
+    Ok(())
 }
 
-fn put_answer(out: &mut Vec<u8>, answer: Answer<'_>) -> Result<Showing, AllocError>
-    ensures showing { IfOk result (λ x. x ≡ showing_of (told answer.entry)) }
-    ensures text { OnOk result (out.new.items ≡ out.old.items ++ shown_if (told answer.entry)) }
+#[tactic(auto, using(crate::proofs::QuadSteps::spaced_two), unfolding(crate::specs::Shown::shown))]
+fn put_answer(out: &mut Vec<u8>, answer: Answer<'_>) -> Result<(), ShowError>
+    ensures showing { OnMemory result (result ≡ showing_of (told answer.entry)) }
+    ensures text { OnMemory result (out.new.items ≡ out.old.items ++ shown_if (told answer.entry)) }
 {
     match answer {
-        Answer::Refused(refusal, place) => put_refusal(out, refusal_number(refusal), place)?,
+        Answer::Refused(refusal, place) => put_refusal(out, refusal, place)?,
         Answer::Number(n) => put_number(out, n)?,
-        Answer::Two(a, b) => put_two(out, a, b)?,
-        Answer::Lots(lines) => return Ok(put_lines(out, lines)?),
-        Answer::Entries(lines) => return Ok(put_lines(out, lines)?),
+        Answer::Two(a, b) => put_numbers(out, &[a, b])?,
+        Answer::Lots(lines) => put_lines(out, lines)?,
+        Answer::Entries(lines) => put_lines(out, lines)?,
     }
-    Ok(Showing::Shown)
+    Ok(())
 }
 
-/// Appends the text of the answer whose bytes these are, and says that it is shown. Of bytes that are no answer's it appends nothing, and says so. An
-/// `Err` only for want of memory.
-pub fn show_answer(out: &mut Vec<u8>, answer: &[u8]) -> Result<Showing, AllocError>
-    ensures showing { IfOk result (λ x. x ≡ showing_of (answer_of answer.now)) }
-    ensures text { OnOk result (out.new.items ≡ out.old.items ++ shown_if (answer_of answer.now)) }
+// Not `Display` of `Answer`: that would have to stand in `wire`, which knows no text, and some bytes have none.
+/// Appends the text of the answer whose bytes these are. Of bytes that are no answer's it appends nothing, and says so. `OutOfMemory` only for want of
+/// memory.
+pub fn show_answer(out: &mut Vec<u8>, answer: &[u8]) -> Result<(), ShowError>
+    ensures showing { OnMemory result (result ≡ showing_of (answer_of answer.now)) }
+    ensures text { OnMemory result (out.new.items ≡ out.old.items ++ shown_if (answer_of answer.now)) }
 {
-    match read_answer(answer) {
-        Some(read) => Ok(put_answer(out, read)?),
-        None => Ok(Showing::NoAnswer),
-    }
+    let answer = read_answer(answer).ok_or(ShowError::NoAnswer)?;
+    put_answer(out, answer)
 }
 
 /// Every answer that bytes can carry is shown from its bytes.
-pub fn answers_shown_stands() -> u8
+pub fn answers_shown_stands()
     ensures { AnswersShown }
-{
-    0
-}
+{}

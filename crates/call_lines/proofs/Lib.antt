@@ -1,9 +1,11 @@
 mod OperandBytes
 mod PartSteps
+mod Stopping
 mod PlaceLaws
 mod Placing
 mod RecipeBytes
 mod LineLaws
+mod NumberSteps
 mod NumberTrips
 mod RecipeTrips
 pub mod ReadableCalls

@@ -5,8 +5,8 @@ use Rattle.std.proofs.lemmas.List.{length-drop}
 use Rattle.words.specs.Words.{trimmed}
 use Rattle.words.specs.Readers.{Read, then, number, keyword, mark, end}
 use Rattle.words.proofs.Tails.{Stops, Leaves, tail_same, tail_none, leaves_then, leaves_if, number_leaves, keyword_leaves, mark_leaves, end_leaves}
-use Rattle.openings.specs.declared.kind.Kind.{Kind}
-use Rattle.openings.specs.declared.kind.Kind.TheVariants.{Buys, Sells, Comes, Goes, BilledBy, Bills, PaysOut, PaysIn, MadeOf, Makes, Counted, StockOf, Account, Order, LotsOf, EntriesFrom}
+use Rattle.wire.specs.declared.call_kind.CallKind.{CallKind}
+use Rattle.wire.specs.declared.call_kind.CallKind.TheVariants.{Buys, Sells, Comes, Goes, BilledBy, Bills, PaysOut, PaysIn, MadeOf, Makes, Counted, StockOf, Account, Order, LotsOf, EntriesFrom}
 use Rattle.openings.specs.Openings.{opening}
 use Rattle.openings.proofs.OpeningTails.{opening_leaves}
 use Rattle.firm.specs.Stock.{Part}
@@ -71,7 +71,7 @@ built s r f h = leaves_then (λ _. []) (λ _. []) s r (λ x. Ok (f x)) h (λ _. 
 recipe_leaves : (s : List ℕ) → ToEnd s (recipe s)
 recipe_leaves s = leaves_then (λ p. p.1) (λ _. []) s (head s) _ (head_leaves s) (λ h. built h.1 (parts 255 [] h.1) (λ ps. made_of h.0 ps) (parts_leave 255 [] h.1))
 
-after_leaves : (k : Kind) (s : List ℕ) → ToEnd s (call_after k s)
+after_leaves : (k : CallKind) (s : List ℕ) → ToEnd s (call_after k s)
 unfolding call_after
 after_leaves Buys s = built s (three s) (λ p. buys p.0 p.1 p.2) (three_leaves s)
 after_leaves Sells s = built s (three s) (λ p. sells p.0 p.1 p.2) (three_leaves s)

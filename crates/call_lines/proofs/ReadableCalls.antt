@@ -4,8 +4,8 @@ use Rattle.std.specs.Result.{result_map_both}
 use Rattle.std.proofs.lemmas.Bool.{and_from, and_parts, lt-ltb}
 use Rattle.words.specs.Readers.{Read, then, number, keyword, mark, end}
 use Rattle.words.proofs.Bounds.{Holds, Small, holds_then, holds_any, number_small}
-use Rattle.openings.specs.declared.kind.Kind.{Kind}
-use Rattle.openings.specs.declared.kind.Kind.TheVariants.{Buys, Sells, Comes, Goes, BilledBy, Bills, PaysOut, PaysIn, MadeOf, Makes, Counted, StockOf, Account, Order, LotsOf, EntriesFrom}
+use Rattle.wire.specs.declared.call_kind.CallKind.{CallKind}
+use Rattle.wire.specs.declared.call_kind.CallKind.TheVariants.{Buys, Sells, Comes, Goes, BilledBy, Bills, PaysOut, PaysIn, MadeOf, Makes, Counted, StockOf, Account, Order, LotsOf, EntriesFrom}
 use Rattle.openings.specs.Openings.{opening}
 use Rattle.wire.specs.Calls.{or_garbled}
 use Rattle.firm.specs.Stock.{Part}
@@ -115,7 +115,7 @@ recipe_readable s =
     (λ i h. holds_then PartsSmall Readable (parts 255 [] i.1) (λ ps. Ok (made_of i.0 ps)) (parts_small 255 [] i.1 (none_small) (omega arith))
     (λ ps k. and_from (field i.0) (readable_parts ps && ltb (length ps) 256) h (and_from (readable_parts ps) (ltb (length ps) 256) k.0 (lt-ltb (length ps) 256 (omega arith)))))
 
-after_readable : (k : Kind) (s : List ℕ) → Holds Readable (call_after k s)
+after_readable : (k : CallKind) (s : List ℕ) → Holds Readable (call_after k s)
 unfolding call_after readable
 after_readable Buys s = three_readable buys s (λ a b c h. h)
 after_readable Sells s = three_readable sells s (λ a b c h. h)

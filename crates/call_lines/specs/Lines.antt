@@ -4,8 +4,8 @@ use Rattle.std.specs.Result.{result_map_both}
 use Rattle.words.specs.Readers.{Read, then}
 use Rattle.wire.specs.Calls.{bytes_of_call, or_garbled}
 use Rattle.firm.specs.Calls.{Call, buys, sells, comes, goes, billed_by, bills, pays_out, pays_in, made_of, makes, counted, stock_of, account, order, lots_of, entries_from}
-use Rattle.openings.specs.declared.kind.Kind.{Kind}
-use Rattle.openings.specs.declared.kind.Kind.TheVariants.{Buys, Sells, Comes, Goes, BilledBy, Bills, PaysOut, PaysIn, MadeOf, Makes, Counted, StockOf, Account, Order, LotsOf, EntriesFrom}
+use Rattle.wire.specs.declared.call_kind.CallKind.{CallKind}
+use Rattle.wire.specs.declared.call_kind.CallKind.TheVariants.{Buys, Sells, Comes, Goes, BilledBy, Bills, PaysOut, PaysIn, MadeOf, Makes, Counted, StockOf, Account, Order, LotsOf, EntriesFrom}
 use Rattle.openings.specs.Openings.{opening}
 use Rattle.call_lines.specs.Numbers.{one, two, three}
 use Rattle.call_lines.specs.Recipes.{head, parts}
@@ -25,7 +25,7 @@ abbrev pub recipe : List ℕ → Read Call
 recipe s = then (head s) (λ h. then (parts 255 [] h.1) (λ ps. Ok (made_of h.0 ps)))
 
 -- what stands after the words that begin a call
-unfoldable pub call_after : Kind → List ℕ → Read Call
+unfoldable pub call_after : CallKind → List ℕ → Read Call
 call_after Buys s = of_three buys s
 call_after Sells s = of_three sells s
 call_after Comes s = of_two comes s

@@ -1,1 +1,2 @@
 mod PartRows
+mod Spacing

@@ -1,5 +1,6 @@
 -- What the arguments of the programs mean: options that widen the books, and a file of calls. Definitions only: nothing is assumed.
-use Rattle.std.specs.Prelude.{◌≡◌, ℕ, Bool, true, false, cond, List, [], ◌∷◌, Some, None, Ok, Err, codes, Option, Result, ◌==◌, nat_le}
+use Rattle.std.specs.Prelude.{◌≡◌, ℕ, Bool, true, false, cond, List, [], ◌∷◌, Some, None, Ok, Err, codes, Option, Result, ◌++◌, decimal, ◌==◌, nat_le}
+use Rattle.std.specs.Option.{ok_or}
 use Rattle.std.specs.Str.{bytes_eq}
 use Rattle.layout.specs.Layout.{most_items, most_orders, most_lots, most_parts, most_entries}
 use Rattle.layout.specs.declared.limits.Limits.{Limits}
@@ -26,6 +27,9 @@ limit_named w =
     cond (bytes_eq w (option_name Items)) (Some Items)
     (cond (bytes_eq w (option_name Orders)) (Some Orders)
     (cond (bytes_eq w (option_name Lots)) (Some Lots) (cond (bytes_eq w (option_name Parts)) (Some Parts) (cond (bytes_eq w (option_name Entries)) (Some Entries) None))))
+
+abbrev pub named_or_misuse : List ℕ → Result Limit Misuse
+named_or_misuse w = ok_or (limit_named w) NoSuchOption
 
 -- the most that books can be opened with
 abbrev pub most : Limit → ℕ
@@ -97,6 +101,14 @@ word_taken None w a = with_word w a
 abbrev pub ended : Option Limit → Result (Unit {0}) Misuse
 ended (Some x) = Err (NumberMissing x)
 ended None = Ok tt
+
+-- why words are refused, as it is said
+abbrev pub misuse_text : Misuse → List ℕ
+misuse_text NoSuchOption = codes "no such option"
+misuse_text SecondFile = codes "a second file"
+misuse_text (NotANumber x) = codes "not a number from 0 to " ++ decimal (most x)
+misuse_text (NumberMissing x) = option_name x ++ codes ": a number is missing"
+misuse_text OutOfMemory = codes "not enough memory"
 
 -- what came of a word, where memory suffices for a file's name
 abbrev pub Took : Result Asked Misuse → Result (Unit {0}) Misuse → Asked → Type 0

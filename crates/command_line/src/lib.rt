@@ -1,15 +1,17 @@
-//! The arguments of the programs: options that widen the books, and a file of calls.
+//! The programs that answer calls: what their arguments ask for, options that widen the books and a file, and what they write.
 
 #![tactic(auto)]
 
+mod failure;
 mod limit;
 mod misuse;
-mod reading;
+mod program;
 mod request;
-mod streams;
+#[cfg(test)]
+mod tests;
 
-pub use limit::{Limit, usual};
+pub use failure::Failure;
+pub use limit::Limit;
 pub use misuse::Misuse;
-pub use reading::{Failed, read};
+pub use program::Program;
 pub use request::Request;
-pub use streams::{bad_limits, no_memory, text_of, whole_text, write};

@@ -1,13 +1,16 @@
 //! The options that widen the books.
 
-ghost use Rattle.std.specs.Prelude.{◌≡◌};
-ghost use Rattle.command_line.specs.Options.{most, with_limit, usual_limits, option_name, limit_named};
+ghost use Rattle.std.specs.Prelude.{◌≡◌, Some};
+ghost use Rattle.command_line.specs.Options.{most, with_limit, option_name, limit_named, named_or_misuse};
 
+use crate::misuse::Misuse;
 use layout::Limits;
+use std::fmt;
+use std::str::FromStr;
 use words::same;
 
 /// Of what an option says how many there can be.
-#[derive(Clone, Copy)]
+#[derive(Clone, Copy, Debug, PartialEq, Eq)]
 pub enum Limit {
     Items,
     Orders,
@@ -16,20 +19,9 @@ pub enum Limit {
     Entries,
 }
 
-/// The limits where no option says otherwise.
-pub fn usual() -> Limits
-    ensures { result ≡ usual_limits }
-{
-    Limits {
-        items: 32,
-        orders: 64,
-        lots: 128,
-        parts: 32,
-        entries: 256,
-    }
-}
-
+// A match each: a table by number would be no plainer, and would not be asked for a limit that it lacks.
 impl Limit {
+    // Not `match word { b"--items" => .. }`: its proof needs a case for each byte.
     /// The limit that an option names.
     pub fn named(word: &[u8]) -> Option<Limit>
         ensures { result ≡ limit_named word.now }
@@ -79,14 +71,47 @@ impl Limit {
     pub fn put(self, limits: Limits, value: u32) -> Limits
         ensures { result ≡ with_limit self value limits }
     {
-        let mut limits = limits;
         match self {
-            Limit::Items => limits.items = value,
-            Limit::Orders => limits.orders = value,
-            Limit::Lots => limits.lots = value,
-            Limit::Parts => limits.parts = value,
-            Limit::Entries => limits.entries = value,
+            Limit::Items => Limits {
+                items: value,
+                ..limits
+            },
+            Limit::Orders => Limits {
+                orders: value,
+                ..limits
+            },
+            Limit::Lots => Limits {
+                lots: value,
+                ..limits
+            },
+            Limit::Parts => Limits {
+                parts: value,
+                ..limits
+            },
+            Limit::Entries => Limits {
+                entries: value,
+                ..limits
+            },
         }
-        limits
+    }
+}
+
+/// The limit that an option names.
+impl FromStr for Limit {
+    type Err = Misuse;
+
+    ghost from_str_gives = { λ word r. r ≡ named_or_misuse word };
+
+    fn from_str(word: &str) -> Result<Limit, Misuse> {
+        Limit::named(word.as_bytes()).ok_or(Misuse::NoSuchOption)
+    }
+}
+
+/// The option that names it.
+impl fmt::Display for Limit {
+    ghost output = { λ limit. Some (option_name limit) };
+
+    fn fmt<W: fmt::Write>(&self, f: &mut fmt::Formatter<W>) -> fmt::Result {
+        f.write_str(self.option())
     }
 }

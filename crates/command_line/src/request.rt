@@ -1,14 +1,23 @@
 //! What the arguments ask for, word by word.
 
 ghost use Rattle.std.specs.Prelude.{◌≡◌};
-ghost use Rattle.command_line.specs.Options.{Took, number_to, nothing_asked, with_number, option_taken, with_file, dashed, word_taken, ended, most};
+ghost use Rattle.command_line.specs.Options.{Took, number_to, nothing_asked, with_number, option_taken, with_file, word_taken, ended, most};
 ghost use Rattle.command_line.specs.Requests.{asked};
 
-use crate::limit::{Limit, usual};
+use crate::limit::Limit;
 use crate::misuse::Misuse;
 use layout::Limits;
 use std::alloc::Global;
-use words::{same, value};
+use words::value;
+
+/// The limits where no option says otherwise.
+const USUAL: Limits = Limits {
+    items: 32,
+    orders: 64,
+    lots: 128,
+    parts: 32,
+    entries: 256,
+};
 
 /// What a program is to do.
 #[derive(Drop)]
@@ -25,18 +34,7 @@ pub struct Request {
 fn number_to(word: &[u8], most: u32) -> Option<u32>
     ensures { result ≡ number_to most word.now }
 {
-    let value = value(word)?;
-    if value <= most as u64 {
-        Some(value as u32)
-    } else {
-        None
-    }
-}
-
-fn is_dashed(word: &[u8]) -> bool
-    ensures { result ≡ dashed word.now }
-{
-    word.len() > 0 && word[0] == b'-'
+    layout::at_most(value(word)?, most)
 }
 
 impl Request {
@@ -45,7 +43,7 @@ impl Request {
         ensures { asked result ≡ nothing_asked }
     {
         Request {
-            limits: usual(),
+            limits: USUAL,
             file: None,
             help: false,
             wanted: None,
@@ -55,9 +53,7 @@ impl Request {
     fn take_number(&mut self, limit: Limit, word: &str) -> Result<(), Misuse>
         ensures { Took (with_number limit (number_to (most limit) word.now) (asked self.old)) result (asked self.new) }
     {
-        let Some(value) = number_to(word.as_bytes(), limit.most()) else {
-            return Err(Misuse::NotANumber(limit));
-        };
+        let value = number_to(word.as_bytes(), limit.most()).ok_or(Misuse::NotANumber(limit))?;
         self.limits = limit.put(self.limits, value);
         self.wanted = None;
         Ok(())
@@ -66,14 +62,10 @@ impl Request {
     fn take_option(&mut self, word: &str) -> Result<(), Misuse>
         ensures { Took (option_taken word.now (asked self.old)) result (asked self.new) }
     {
-        if same(word.as_bytes(), b"--help") {
-            self.help = true;
-            return Ok(());
+        match word {
+            "--help" => self.help = true,
+            option => self.wanted = Some(option.parse()?),
         }
-        let Some(limit) = Limit::named(word.as_bytes()) else {
-            return Err(Misuse::NoSuchOption);
-        };
-        self.wanted = Some(limit);
         Ok(())
     }
 
@@ -83,10 +75,7 @@ impl Request {
         if self.file.is_some() {
             return Err(Misuse::SecondFile);
         }
-        let Ok(name) = String::from_str(heap, word) else {
-            return Err(Misuse::OutOfMemory);
-        };
-        self.file = Some(name);
+        self.file = Some(String::from_str(heap, word)?);
         Ok(())
     }
 
@@ -97,7 +86,7 @@ impl Request {
         if let Some(limit) = self.wanted {
             return self.take_number(limit, word);
         }
-        if is_dashed(word.as_bytes()) {
+        if word.starts_with('-') {
             return self.take_option(word);
         }
         self.take_file(heap, word)

@@ -1,9 +1,10 @@
 -- A number and its bytes. Assumes nothing.
-use Rattle.std.proofs.Common.{◌≡◌, ℕ, zero, suc, ◌+◌, ◌*◌, ◌/◌, ◌%◌, ◌^◌, ◌<◌, ◌≤◌, List, [], ◌∷◌, ◌++◌, length, get_or, take, drop, sym, refl, ap, ◌∙◌, ⊎_elim, arith, length-append, take-add}
+use Rattle.std.proofs.Common.{◌≡◌, ℕ, zero, suc, ◌+◌, ◌*◌, ◌/◌, ◌%◌, ◌^◌, ◌<◌, ◌≤◌, List, [], ◌∷◌, ◌++◌, length, take, drop, sym, refl, ap, ◌∙◌, ⊎_elim, arith, length-append, take-add}
 use native.Mathlib.Nat.{pow-succ', pow-le-pow_right, div-div-eq-div-mul}
-use Rattle.std.proofs.lemmas.List.{drop_more, drop-drop, length-take-le, length-take, get_or-take, get_or-drop, get_or_past, length-drop}
+use Rattle.std.proofs.lemmas.List.{drop-drop, length-take-le, length-take, get_or-take, get_or-drop, get_or_past, length-drop}
 use Rattle.std.proofs.lemmas.Bool.{cases_lt}
-use Rattle.fields.specs.Bytes.{Bytes, value, digits, field_bytes, field_at, all_fields}
+use Rattle.fields.specs.Bytes.{Bytes, value, digits, field_bytes, field_at, all_fields, fields_from}
+use Rattle.std.specs.Int.{w64, from_le_bytes}
 
 pub length_digits : (k n : ℕ) → length (digits k n) ≡ k
 unfolding digits
@@ -32,27 +33,19 @@ pub field_bytes_are : (n : ℕ) →
 unfolding field_bytes digits
 field_bytes_are n = simp div-div-eq-div-mul
 
-next : (bs : List ℕ) (k j n : ℕ) → k < length bs → j ≡ k + 1 → take (suc n) (drop k bs) ≡ get_or bs k 0 ∷ take n (drop j bs)
-next bs k j n h e = ap (take (suc n)) (drop_more bs k 0 h) ∙ ap (λ (i : ℕ). get_or bs k 0 ∷ take n (drop i bs)) (sym e)
-
--- eight bytes in a row, by their places
-at_eight : (bs : List ℕ) (k : ℕ) → k + 8 ≤ length bs →
-    take 8 (drop k bs) ≡ get_or bs k 0 ∷ (get_or bs (k + 1) 0 ∷ (get_or bs (k + 2) 0 ∷ (get_or bs (k + 3) 0 ∷ (get_or bs (k + 4) 0 ∷ (get_or bs (k + 5) 0 ∷ (get_or bs (k + 6) 0 ∷ (get_or bs (k + 7) 0 ∷ [])))))))
-at_eight bs k h =
-    let e0 = next bs k (k + 1) 7 (omega arith) (omega arith) in
-    let e1 = next bs (k + 1) (k + 2) 6 (omega arith) (omega arith) in
-    let e2 = next bs (k + 2) (k + 3) 5 (omega arith) (omega arith) in
-    let e3 = next bs (k + 3) (k + 4) 4 (omega arith) (omega arith) in
-    let e4 = next bs (k + 4) (k + 5) 3 (omega arith) (omega arith) in
-    let e5 = next bs (k + 5) (k + 6) 2 (omega arith) (omega arith) in
-    let e6 = next bs (k + 6) (k + 7) 1 (omega arith) (omega arith) in
-    let e7 = next bs (k + 7) (k + 8) 0 (omega arith) (omega arith) in
-    cc
-
-pub field_at_is : (bs : List ℕ) (k : ℕ) → k + 8 ≤ length bs →
-    field_at k bs ≡ get_or bs k 0 + get_or bs (k + 1) 0 * 256 + get_or bs (k + 2) 0 * 65536 + get_or bs (k + 3) 0 * 16777216 + get_or bs (k + 4) 0 * 4294967296 + get_or bs (k + 5) 0 * 1099511627776 + get_or bs (k + 6) 0 * 281474976710656 + get_or bs (k + 7) 0 * 72057594037927936
-unfolding field_at value
-field_at_is bs k h = ap value (at_eight bs k h) ∙ omega arith
+-- the number in eight bytes as std names it
+pub value_is : (bs : List ℕ) → length bs ≡ 8 → from_le_bytes w64 bs ≡ value bs
+unfolding value
+value_is [] l = absurd (omega arith)
+value_is (a ∷ []) l = absurd (omega arith)
+value_is (a ∷ b ∷ []) l = absurd (omega arith)
+value_is (a ∷ b ∷ c ∷ []) l = absurd (omega arith)
+value_is (a ∷ b ∷ c ∷ d ∷ []) l = absurd (omega arith)
+value_is (a ∷ b ∷ c ∷ d ∷ e ∷ []) l = absurd (omega arith)
+value_is (a ∷ b ∷ c ∷ d ∷ e ∷ f ∷ []) l = absurd (omega arith)
+value_is (a ∷ b ∷ c ∷ d ∷ e ∷ f ∷ g ∷ []) l = absurd (omega arith)
+value_is (a ∷ b ∷ c ∷ d ∷ e ∷ f ∷ g ∷ h ∷ []) l = omega arith
+value_is (a ∷ b ∷ c ∷ d ∷ e ∷ f ∷ g ∷ h ∷ i ∷ bs) l = absurd (omega arith)
 
 pub value_lt : (bs : List ℕ) → Bytes bs → value bs < 256 ^ length bs
 unfolding value
@@ -87,11 +80,6 @@ unfolding field_bytes field_at
 field_back k bs b h =
     let l : length (take 8 (drop k bs)) ≡ 8 = length-take-le 8 (drop k bs) (omega (arith, length-drop k bs)) in
     ap (λ (n : ℕ). digits n (value (take 8 (drop k bs)))) (sym l) ∙ digits_value (take 8 (drop k bs)) (bytes_take 8 (drop k bs) (bytes_drop k bs b))
-
--- n fields from a place on
-abbrev pub fields_from : ℕ → ℕ → List ℕ → List ℕ
-fields_from zero k bs = []
-fields_from (suc n) k bs = field_at k bs ∷ fields_from n (k + 8) bs
 
 pub fields_back : (n k : ℕ) (bs : List ℕ) → Bytes bs → k + 8 * n ≤ length bs → all_fields (fields_from n k bs) ≡ take (8 * n) (drop k bs)
 fields_back zero k bs b h = refl

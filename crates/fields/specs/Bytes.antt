@@ -27,6 +27,11 @@ field_at k bs = value (take 8 (drop k bs))
 abbrev pub all_fields : List ℕ → List ℕ
 all_fields ns = flat_map field_bytes ns
 
+-- n fields from a place on
+abbrev pub fields_from : ℕ → ℕ → List ℕ → List ℕ
+fields_from zero k bs = []
+fields_from (suc n) k bs = field_at k bs ∷ fields_from n (k + 8) bs
+
 -- what is read of a row that must have n bytes; else the place where it ceases to fit: its end if bytes are missing, n if there are too many
 abbrev pub sized : {A : Type 0} → ℕ → List ℕ → A → Result A ℕ
 sized n bs a = cond (length bs == n) (Ok a) (Err (min (length bs) n))

@@ -3,8 +3,6 @@
 ghost use Rattle.firm.specs.Books.{WorkedBooks};
 
 /// Each call of the worked books is answered as written there.
-pub fn worked_books_stands() -> u8
+pub fn worked_books_stands()
     ensures { WorkedBooks }
-{
-    0
-}
+{}

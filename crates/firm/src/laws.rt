@@ -3,36 +3,26 @@
 ghost use Rattle.firm.specs.Laws.{LackingIs, ReachedFits, LotsSmall, ProductsSmall, OrdersKnown};
 
 /// What is lacking is what was wanted less what was on hand.
-pub fn lacking_is_stands() -> u8
+pub fn lacking_is_stands()
     ensures { LackingIs }
-{
-    0
-}
+{}
 
 /// All that is reached is within the limits.
-pub fn reached_fits_stands() -> u8
+pub fn reached_fits_stands()
     ensures { ReachedFits }
-{
-    0
-}
+{}
 
 /// A lot that costs anything has at most 1,000,000 pieces.
-pub fn lots_small_stands() -> u8
+pub fn lots_small_stands()
     ensures { LotsSmall }
-{
-    0
-}
+{}
 
 /// A lot's cost times its pieces stays below 2^63.
-pub fn products_small_stands() -> u8
+pub fn products_small_stands()
     ensures { ProductsSmall }
-{
-    0
-}
+{}
 
 /// Each order is of an item that there is, and its numbers are small.
-pub fn orders_known_stands() -> u8
+pub fn orders_known_stands()
     ensures { OrdersKnown }
-{
-    0
-}
+{}

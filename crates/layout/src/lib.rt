@@ -10,10 +10,12 @@ ghost use Rattle.layout.specs.Layout.{Good, is_good, count_at, total_at, balance
 
 mod head;
 mod limits;
+mod numbers;
 
 pub use head::{Counter, Total};
 pub use limits::Limits;
 use links::Shape;
+pub use numbers::{at_most, below};
 
 /// The largest limits.
 pub const MOST_ITEMS: u32 = 4096;
@@ -48,27 +50,19 @@ const BALANCES_AT: u32 = 16;
 
 const STOCKS_AT: u32 = 64;
 
+// By names of their own, since contracts above speak of places and not of the numbers of cases.
 /// Where a counter lies in the narrow slice.
 pub fn count_at(counter: Counter) -> usize
     ensures { result ≡ count_at counter }
 {
-    match counter {
-        Counter::Orders => 16,
-        Counter::Entries => 17,
-        Counter::Parts => 18,
-        Counter::Lots => 19,
-    }
+    counter as usize
 }
 
 /// Where a total lies in the wide slice.
 pub fn total_at(total: Total) -> usize
     ensures { result ≡ total_at total }
 {
-    match total {
-        Total::Documents => 0,
-        Total::Booked => 1,
-        Total::Worth => 2,
-    }
+    total as usize
 }
 
 /// Where the two words of an item's recipe lie.
@@ -95,11 +89,7 @@ pub fn stock_at(item: u32) -> usize
 fn capped(at: usize) -> u32
     ensures { result ≡ capped at }
 {
-    if at < u32::MAX as usize {
-        at as u32
-    } else {
-        u32::MAX
-    }
+    u32::try_from(at).unwrap_or(u32::MAX)
 }
 
 impl Limits {
@@ -234,15 +224,12 @@ impl Limits {
 }
 
 /// The budget: books never take more than 8 words, or 64 bytes, for each unit of their limits, and so much more.
-pub fn budget_stands() -> u8
+pub fn budget_stands()
     ensures { Budget }
-{
-    0
-}
+{}
 
 /// The rows of lots, orders and entries lie apart from each other and from all else, in the memory that is asked for.
-pub fn areas_stand() -> u8
+#[tactic(auto, using(crate::proofs::Placed::areas))]
+pub fn areas_stand()
     ensures { Areas }
-{
-    0
-}
+{}

@@ -1,5 +1,5 @@
 /// What books are opened with: how many of each there can be. A recipe counts one part besides its own.
-#[derive(Clone, Copy)]
+#[derive(Clone, Copy, PartialEq, Eq, Debug)]
 pub struct Limits {
     pub items: u32,
     pub orders: u32,

@@ -1,9 +1,10 @@
 -- The laws of rows in the words of a slice: insertion and removal anywhere, the walk, the tail, the free row.
-use Rattle.std.proofs.Common.{◌≡◌, ℕ, zero, suc, ◌+◌, ◌<◌, ◌≢◌, List, [], ◌∷◌, ◌++◌, length, get_or, set, Some, None, sym, refl, ap, ◌∙◌, subst, ⊎_elim, append-nil, arith, length-set}
+use Rattle.std.proofs.Common.{◌≡◌, ℕ, zero, suc, ◌+◌, ◌<◌, ◌≤◌, ◌≢◌, List, [], ◌∷◌, ◌++◌, length, get_or, set, Some, None, sym, refl, ap, ◌∙◌, subst, ⊎_elim, append-nil, arith, length-set}
 use Rattle.links.specs.Tables.{Tables, end, header, following, insert_after, remove_after}
 use Rattle.links.specs.Model.{Path, Holds, Spare, Removed, row, count, last, first, total}
 use Rattle.links.specs.Area.{header_of, tables, Sound, tail_in, following_in, on_in, nth_in, inserted, removed}
-use Rattle.links.specs.Rows.{Rows, Loose, nth, Inserts, Removes, Walks, Follows, Tails, Frees, Stays, Once, RowsLaws}
+use Rattle.links.specs.Walk.{cells_on, cells_in}
+use Rattle.links.specs.Rows.{Rows, Loose, nth, Inserts, Removes, Walks, Meets, Follows, Tails, Frees, Stays, Once, RowsLaws}
 use Rattle.links.specs.declared.shape.Shape.{Shape}
 use Rattle.links.proofs.Addresses.{header_is}
 use Rattle.links.proofs.Counts.{count_last, count_cases, count_append, total_set}
@@ -101,6 +102,16 @@ module _ (h : Shape) (n : List ℕ) (m : List (List ℕ)) (r : ℕ) (sound : Sou
       go (suc k) p [] l = refl
       go (suc k) p (x ∷ xs) l = ap (on_in k h n) (sym (following_is h n x (omega (arith, l.1, end_is h n))) ∙ path_first t x xs l.2) ∙ go k x xs l.2
 
+  cells : cells_in h n r ≡ row m r
+  cells = ap (cells_on h.cells h n) first_is ∙ go h.cells (header t r) (row m r) path (omega (arith, total_set m r [] here, rows.held.room, end_is h n))
+    where
+      go : (k p : ℕ) (xs : List ℕ) → Path (end t) t.next p xs (end t) → length xs ≤ k → cells_on k h n (first xs) ≡ xs
+      go zero p [] l le = refl
+      go (suc k) p [] l le = refl
+      go zero p (x ∷ xs) l le = absurd (omega arith)
+      go (suc k) p (x ∷ xs) l le =
+          ap (λ (ys : List ℕ). x ∷ ys) (ap (cells_on k h n) (sym (following_is h n x (omega (arith, l.1, end_is h n))) ∙ path_first t x xs l.2) ∙ go k x xs l.2 (omega arith))
+
   follow : (c : ℕ) (bs cs : List ℕ) → row m r ≡ bs ++ c ∷ cs → following_in h n c ≡ first cs
   follow c bs cs e =
       let rest = path_at (end t) t.next (header t r) bs (c ∷ cs) (end t) (subst (λ (l : List ℕ). Path (end t) t.next (header t r) l (end t)) e path) in
@@ -125,6 +136,9 @@ removes h n m r bs cs x sound rows lt e = remove h n m r sound rows lt bs cs x e
 pub walks : Walks
 walks h n m r k sound rows lt = walk h n m r sound rows lt k
 
+pub meets : Meets
+meets h n m r sound rows lt = cells h n m r sound rows lt
+
 pub follows : Follows
 follows h n m r c bs cs sound rows lt e = follow h n m r sound rows lt c bs cs e
 
@@ -146,6 +160,7 @@ rows_laws = record {
   inserts = inserts;
   removes = removes;
   walks = walks;
+  meets = meets;
   follows = follows;
   tails = tails;
   empties = empties;

@@ -9,3 +9,4 @@ pub mod Loops
 pub mod Opened
 pub mod Frames
 pub mod Laws
+pub mod Walk

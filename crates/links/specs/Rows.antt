@@ -2,6 +2,7 @@
 use Rattle.std.specs.Prelude.{◌≡◌, ℕ, zero, suc, ◌+◌, ◌<◌, ◌≤◌, ◌≢◌, List, [], ◌∷◌, ◌++◌, length, replicate, Some, None, Option, slice_index, slice_set}
 use Rattle.std.specs.List.{range_with_len}
 use Rattle.links.specs.Area.{place_at, tail_at, header_of, tables, Sound, Lies, tail_in, following_in, nth_in, inserted, removed, emptied, filled}
+use Rattle.links.specs.Walk.{cells_in}
 use Rattle.links.specs.Model.{Holds, Spare, row, first, last, total, uses}
 use Rattle.links.specs.declared.shape.Shape.{Shape}
 
@@ -46,6 +47,10 @@ Removes =
 -- The walk from the front meets a row's cells in order, and ends where the row does.
 abbrev pub Walks : Type 0
 Walks = (h : Shape) (n : List ℕ) (m : List (List ℕ)) (r k : ℕ) → Sound h → Rows h n m → r < h.rows → nth_in h n r k ≡ nth (row m r) k
+
+-- The iterator of a row meets its cells in order, all of them.
+abbrev pub Meets : Type 0
+Meets = (h : Shape) (n : List ℕ) (m : List (List ℕ)) (r : ℕ) → Sound h → Rows h n m → r < h.rows → cells_in h n r ≡ row m r
 
 -- After a cell of a row comes the next one of that row, if any.
 abbrev pub Follows : Type 0
@@ -95,6 +100,7 @@ pub record RowsLaws : Type 0 where
   pub inserts : Inserts
   pub removes : Removes
   pub walks : Walks
+  pub meets : Meets
   pub follows : Follows
   pub tails : Tails
   pub empties : Empties

@@ -7,12 +7,16 @@
 ghost use Rattle.std.specs.Prelude.{◌≡◌};
 ghost use Rattle.links.specs.Area.{place_at, tail_at, header_of, after_in, tail_in, following_in, nth_in, inserted, removed, emptied, chained, filled};
 ghost use Rattle.links.specs.Rows.{RowsLaws};
+ghost use Rattle.links.specs.Walk.{cells_on, cells_in, cells_left};
 
+// Numbers of cells and not a list on the heap: the engine has no memory but what it is lent.
+mod cells;
 mod shape;
 mod words;
 
+pub use cells::Cells;
 pub use shape::Shape;
-pub use words::{get, put};
+pub use words::{Word, get, put};
 
 impl Shape {
     /// The place before the first cell of `row`.
@@ -22,6 +26,7 @@ impl Shape {
         self.cells.saturating_add(row)
     }
 
+    #[tactic(auto, unfolding(crate::specs::Area::place_at))]
     fn place_at(self, place: u32) -> usize
         ensures { result ≡ place_at self place }
     {
@@ -32,6 +37,7 @@ impl Shape {
         }
     }
 
+    #[tactic(auto, unfolding(crate::specs::Area::tail_at))]
     fn tail_at(self, row: u32) -> usize
         ensures { result ≡ tail_at self row }
     {
@@ -59,21 +65,36 @@ impl Shape {
         if cell < self.cells { Some(cell) } else { None }
     }
 
+    #[tactic(auto, unfolding(crate::specs::Walk::cells_left))]
+    fn cells_after(self, words: &[u32], place: u32, left: usize) -> Cells<'_>
+        ensures { cells_left result ≡ cells_on left self words.now (following_in self words.now place) }
+    {
+        Cells {
+            shape: self,
+            words,
+            place,
+            left,
+        }
+    }
+
+    /// The cells of `row`, from the front on, at most as many as there are in all.
+    pub fn cells_of(self, words: &[u32], row: u32) -> Cells<'_>
+        ensures { cells_left result ≡ cells_in self words.now row }
+    {
+        self.cells_after(words, self.header(row), self.cells as usize)
+    }
+
     /// The cell at place `index` of `row`, counted from the front, if the row has so many.
     pub fn nth(self, words: &[u32], row: u32, index: u32) -> Option<u32>
         ensures { result ≡ nth_in self words.now row index }
     {
-        let mut place = self.header(row);
-        for _step in 0..index {
-            let Some(cell) = self.following(words, place) else {
-                return None;
-            };
-            place = cell;
-        }
-        self.following(words, place)
+        let index = index as usize;
+        let mut cells = self.cells_after(words, self.header(row), index + 1);
+        cells.nth(index)
     }
 
     /// Puts `cell` right after `place`, which is one of `row`.
+    #[tactic(auto, unfolding(crate::specs::Area::inserted))]
     pub fn insert_after(self, words: &mut [u32], row: u32, place: u32, cell: u32)
         ensures { words.new ≡ inserted self row place cell words.old }
     {
@@ -87,6 +108,7 @@ impl Shape {
     }
 
     /// Takes `cell`, which stands right after `place`, out of `row`.
+    #[tactic(auto, unfolding(crate::specs::Area::removed))]
     pub fn remove_after(self, words: &mut [u32], row: u32, place: u32, cell: u32)
         ensures { words.new ≡ removed self row place cell words.old }
     {
@@ -118,6 +140,7 @@ impl Shape {
     }
 
     /// Puts all cells, in order, into `row`, where every row is empty.
+    #[tactic(auto, unfolding(crate::specs::Area::filled))]
     pub fn fill_row(self, words: &mut [u32], row: u32)
         ensures { words.new ≡ filled self row words.old }
     {
@@ -130,8 +153,7 @@ impl Shape {
 }
 
 /// The laws of rows: what each operation does to the cells of every row, in order, and to all other words.
-pub fn rows_stand() -> u8
+#[tactic(auto, using(crate::proofs::Laws::rows_laws))]
+pub fn rows_stand()
     ensures { RowsLaws }
-{
-    0
-}
+{}

@@ -2,3 +2,4 @@ pub mod Slots
 pub mod Head
 pub mod Opened
 pub mod Laws
+pub mod Holding

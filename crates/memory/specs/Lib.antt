@@ -1,3 +1,4 @@
+pub mod Lent
 pub mod Books
 pub mod Opened
 pub mod Slots

@@ -1,12 +1,12 @@
 -- Opening: what is refused, and the empty books that are left otherwise.
-use Rattle.std.specs.Prelude.{ℕ, cond, List, ◌++◌, length, drop, replicate, nat_lt, slice_set}
+use Rattle.std.specs.Prelude.{ℕ, cond, ◌||◌, List, Ok, Err, Result, ◌++◌, length, drop, replicate, nat_lt, slice_set, codes}
 use Rattle.layout.specs.Layout.{is_good, wide_need, narrow_need, lot_rows, order_rows, entry_rows}
 use Rattle.layout.specs.declared.limits.Limits.{Limits}
 use Rattle.links.specs.Area.{emptied, filled}
 use Rattle.links.specs.declared.shape.Shape.{Shape}
 use Rattle.records.specs.State.{State, state}
-use Rattle.memory.specs.declared.opening.Opening.{Opening}
-use Rattle.memory.specs.declared.opening.Opening.TheVariants.{Done, LimitsOutOfRange, MemoryTooSmall}
+use Rattle.memory.specs.declared.error.OpenError.{OpenError}
+use Rattle.memory.specs.declared.error.OpenError.TheVariants.{LimitsOutOfRange, MemoryTooSmall}
 
 -- the first k words are 0, and those beyond are as they were
 unfoldable pub zeroed : ℕ → List ℕ → List ℕ
@@ -25,17 +25,26 @@ with_rows l n = all_empty (entry_rows l) (all_empty (order_rows l) (filled (lot_
 unfoldable pub opened : Limits → State → State
 opened l s = state (zeroed (wide_need l) s.wide) (with_rows l (with_limits l (zeroed (narrow_need l) s.narrow)))
 
+-- whether books may have such limits, and slices of so many words have room for them
+abbrev pub room : Limits → ℕ → ℕ → Result (Unit {0}) OpenError
+room l w n = cond (is_good l) (cond (nat_lt w (wide_need l) || nat_lt n (narrow_need l)) (Err MemoryTooSmall) (Ok tt)) (Err LimitsOutOfRange)
+
 -- what came of opening, and what it left
 pub record Opened : Type 0 where
-  pub came : Opening
+  pub came : Result (Unit {0}) OpenError
   pub left : State
 
-abbrev pub opening_of : Opening → State → Opened
+abbrev pub opening_of : Result (Unit {0}) OpenError → State → Opened
 opening_of o s = record { came = o; left = s }
 
 abbrev pub opening : Limits → State → Opened
 opening l s =
     cond (is_good l)
-    (cond (nat_lt (length s.wide) (wide_need l)) (opening_of MemoryTooSmall s)
-    (cond (nat_lt (length s.narrow) (narrow_need l)) (opening_of MemoryTooSmall s) (opening_of Done (opened l s))))
-    (opening_of LimitsOutOfRange s)
+    (cond (nat_lt (length s.wide) (wide_need l)) (opening_of (Err MemoryTooSmall) s)
+    (cond (nat_lt (length s.narrow) (narrow_need l)) (opening_of (Err MemoryTooSmall) s) (opening_of (Ok tt) (opened l s))))
+    (opening_of (Err LimitsOutOfRange) s)
+
+-- why not, in words
+abbrev pub error_text : OpenError → List ℕ
+error_text LimitsOutOfRange = codes "limits out of range"
+error_text MemoryTooSmall = codes "memory too small"

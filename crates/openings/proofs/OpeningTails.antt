@@ -4,17 +4,17 @@ use Rattle.std.specs.Str.{bytes_eq}
 use Rattle.words.specs.Words.{trimmed, word, past}
 use Rattle.words.specs.Readers.{Read, keyword}
 use Rattle.words.proofs.Tails.{Tail, Stops, Leaves, tail_same, leaves_on, leaves_then, leaves_if, leaves_trimmed, stops_here, past_here, keyword_leaves}
-use Rattle.openings.specs.declared.kind.Kind.{Kind}
-use Rattle.openings.specs.declared.kind.Kind.TheVariants.{BilledBy, PaysOut, PaysIn, MadeOf, StockOf, LotsOf, EntriesFrom}
+use Rattle.wire.specs.declared.call_kind.CallKind.{CallKind}
+use Rattle.wire.specs.declared.call_kind.CallKind.TheVariants.{BilledBy, PaysOut, PaysIn, MadeOf, StockOf, LotsOf, EntriesFrom}
 use Rattle.openings.specs.Openings.{second, either, paying, begins_other, begins, opening}
 
-abbrev Left : List ℕ → Read (Kind × List ℕ) → Type 0
+abbrev Left : List ℕ → Read (CallKind × List ℕ) → Type 0
 Left s r = Leaves (λ p. p.1) s r
 
-second_leaves : (w : List ℕ) (k : Kind) (s : List ℕ) → Left s (second w k s)
+second_leaves : (w : List ℕ) (k : CallKind) (s : List ℕ) → Left s (second w k s)
 second_leaves w k s = leaves_then (λ t. t) (λ p. p.1) s (keyword w s) (λ t. Ok (k, t)) (keyword_leaves w s) (λ t. tail_same t)
 
-either_leaves : (s : List ℕ) (r t : Read (Kind × List ℕ)) → Left s r → Left s t → Left s (either r t)
+either_leaves : (s : List ℕ) (r t : Read (CallKind × List ℕ)) → Left s r → Left s t → Left s (either r t)
 either_leaves s (Ok x) t h k = h
 either_leaves s (Err e) t h k = k
 
@@ -22,10 +22,10 @@ paying_leaves : (s : List ℕ) → Left s (paying s)
 paying_leaves s = either_leaves s (second (codes "out") PaysOut s) (second (codes "in") PaysIn s) (second_leaves (codes "out") PaysOut s) (second_leaves (codes "in") PaysIn s)
 
 -- the first word is w, and begins at the line's end part at, which s is the rest of
-on : (at s : List ℕ) (r : Read (Kind × List ℕ)) → Tail at s → Left s r → Left at r
+on : (at s : List ℕ) (r : Read (CallKind × List ℕ)) → Tail at s → Left s r → Left at r
 on at s r h k = leaves_on (λ p. p.1) at s r h k
 
-if_word : (at w v : List ℕ) (r t : Read (Kind × List ℕ)) → Left at r → Left at t → Left at (cond (bytes_eq w v) r t)
+if_word : (at w v : List ℕ) (r t : Read (CallKind × List ℕ)) → Left at r → Left at t → Left at (cond (bytes_eq w v) r t)
 if_word at w v r t h k = leaves_if (λ p. p.1) at (bytes_eq w v) r t h k
 
 begins_other_leaves : (w at s : List ℕ) → Tail at s → Stops at at → Left at (begins_other w at s)

@@ -1,3 +1,2 @@
-pub mod Turns
 pub mod Listed
 pub mod Along

@@ -1,7 +1,7 @@
 -- Lots that are written while they are met. Assumes nothing.
-use Rattle.std.proofs.Common.{◌≡◌, ℕ, zero, suc, ◌+◌, ◌-◌, ◌*◌, ◌<◌, ◌≤◌, cond, leb, List, [], ◌∷◌, ◌++◌, length, take, drop, Some, None, Option, sym, refl, ap, ◌∙◌, append_assoc, append-nil, arith, length-append}
-use Rattle.std.specs.List.{flat_map}
-use Rattle.std.proofs.lemmas.List.{take-append-drop, length-take-le, length_push, drop_at}
+use Rattle.std.proofs.Common.{◌≡◌, ℕ, zero, suc, ◌+◌, ◌*◌, ◌≤◌, cond, leb, List, [], ◌∷◌, ◌++◌, length, map, take, drop, Some, None, Option, sym, refl, ap, ◌∙◌, append_assoc, append-nil, arith, length-append}
+use Rattle.std.specs.List.{flat_map, fold}
+use Rattle.std.proofs.lemmas.List.{length-map, map-append, take-append-drop, length-take-le, length_push, drop_at}
 use Rattle.std.proofs.lemmas.Bool.{cond-true, le-leb}
 use Rattle.fields.specs.Written.{Written, wrote, written, over, line_put}
 use Rattle.fields.proofs.Numbers.{length_fields}
@@ -11,6 +11,7 @@ use Rattle.firm.specs.Calls.{lots}
 use Rattle.layout.specs.Layout.{lot_rows, answer_need}
 use Rattle.layout.specs.declared.limits.Limits.{Limits}
 use Rattle.links.specs.Area.{following_in, header_of}
+use Rattle.links.specs.Walk.{cells_on, cells_in}
 use Rattle.links.specs.declared.shape.Shape.{Shape}
 use Rattle.memory.specs.Books.{lot_record}
 use Rattle.records.specs.State.{State}
@@ -19,16 +20,16 @@ use Rattle.wire.specs.Answers.{list_head, bytes_of_answer}
 use Rattle.wire.proofs.ListLaws.{lists_compose}
 use Rattle.wire.proofs.ReadBack.{length_joined, length_lot}
 use Rattle.questions.specs.Listing.{lot_of, lots_step, lots_met}
-use Rattle.questions.specs.Walk.{walked_on, walked_from}
-use Rattle.questions.proofs.Turns.{walk_begins, walk_turns, walk_stops, walk_ends}
 
--- after some turns: the lots met so far, how they lie in the bytes, and what the rest of the walk will add
-pub record Listed (l : Limits) (i : ℕ) (s : State) (h : Shape) (old now : List ℕ) (turn place count : ℕ) : Type 0 where
-  pub met : List Lot
-  pub counted : count ≡ length met
-  pub few : count ≤ turn
-  pub lines : now ≡ over (take 9 old ++ flat_map lot_bytes met) old
-  pub rest : walked_from (lots_step l s) (h.cells - turn) h s.narrow place met ≡ lots_met l i s
+-- the lots in some cells
+abbrev pub lots_at : Limits → State → List ℕ → List Lot
+lots_at l s cs = map (λ c. lot_of (lot_record l c s)) cs
+
+-- the cells that were met so far and those that are left, how many lots were met, and how they lie in the bytes
+pub record Listed (l : Limits) (i : ℕ) (s : State) (old now : List ℕ) (met_so_far left : List ℕ) (count : ℕ) : Type 0 where
+  pub along : met_so_far ++ left ≡ cells_in (lot_rows l) s.narrow i
+  pub counted : count ≡ length met_so_far
+  pub lines : now ≡ over (take 9 old ++ flat_map lot_bytes (lots_at l s met_so_far)) old
 
 -- nothing is written before the first turn
 pub over_none : (old : List ℕ) → 9 ≤ length old → old ≡ over (take 9 old ++ flat_map lot_bytes []) old
@@ -37,45 +38,81 @@ over_none old h =
     let n : length (take 9 old ++ []) ≡ 9 = ap length (append-nil (take 9 old)) ∙ length-take-le 9 old h in
     sym (ap (λ (xs : List ℕ). xs ++ drop (length (take 9 old ++ [])) old) (append-nil (take 9 old)) ∙ ap (λ (k : ℕ). take 9 old ++ drop k old) n ∙ take-append-drop 9 old)
 
-module _ (l : Limits) (i : ℕ) (s : State) (h : Shape) (old : List ℕ) where
-  pub listed_begins : (place : ℕ) → h ≡ lot_rows l → place ≡ header_of h i → 9 ≤ length old → Listed l i s h old old 0 place 0
-  unfolding lots_met
-  listed_begins place e is long =
-      record { met = []; counted = refl; few = omega arith; lines = over_none old long; rest = walk_begins (lots_step l s) h s.narrow (lot_rows l) i place [] e is }
+-- no more cells are met than there are
+few_met : (k : ℕ) (h : Shape) (n : List ℕ) (o : Option ℕ) → length (cells_on k h n o) ≤ k
+few_met zero h n o = omega arith
+few_met (suc k) h n None = omega arith
+few_met (suc k) h n (Some c) = omega (arith, few_met k h n (following_in h n c))
 
-  -- the lot of the cell c is met after the place, and put behind the others
-  pub listed_turns : (now out : List ℕ) (turn place count c : ℕ) → Listed l i s h old now turn place count → turn < h.cells → Some c ≡ following_in h s.narrow place →
-      9 + 32 * count + 32 ≤ length old → out ≡ (line_put count (lot_bytes (lot_of (lot_record l c s))) now).left → Listed l i s h old out (turn + 1) c (count + 1)
-  listed_turns now out turn place count c x lt is room e =
+module _ (l : Limits) (s : State) where
+  step_by_step : (xs : List Lot) (cs : List ℕ) → fold (lots_step l s) xs cs ≡ xs ++ lots_at l s cs
+  step_by_step xs [] = sym (append-nil xs)
+  step_by_step xs (c ∷ cs) = step_by_step (xs ++ (lot_of (lot_record l c s) ∷ [])) cs ∙ append_assoc xs _ (lots_at l s cs)
+
+  -- the lots that are met are those in the cells of the row
+  pub lots_met_at : (i : ℕ) → lots_met l i s ≡ lots_at l s (cells_in (lot_rows l) s.narrow i)
+  unfolding lots_met
+  lots_met_at i = step_by_step [] (cells_in (lot_rows l) s.narrow i)
+
+  pub met_few : (i : ℕ) → length (lots_met l i s) ≤ l.lots
+  met_few i =
+      omega (
+        arith,
+        ap length (lots_met_at i),
+        length-map (cells_in (lot_rows l) s.narrow i) (λ c. lot_of (lot_record l c s)),
+        few_met l.lots (lot_rows l) s.narrow (following_in (lot_rows l) s.narrow (header_of (lot_rows l) i)),
+      )
+
+module _ (l : Limits) (i : ℕ) (s : State) (old : List ℕ) where
+  pub listed_begins : (left : List ℕ) → left ≡ cells_in (lot_rows l) s.narrow i → 9 ≤ length old → Listed l i s old old [] left 0
+  listed_begins left e long = record { along = e; counted = refl; lines = over_none old long }
+
+  -- there is room for the lot of one cell more
+  pub room_left : (now : List ℕ) (met_so_far left : List ℕ) (count c : ℕ) (more : List ℕ) → Listed l i s old now met_so_far left count → left ≡ c ∷ more → count + 1 ≤ l.lots
+  room_left now met_so_far left count c more x e =
+      omega (
+        arith,
+        x.counted,
+        ap length x.along,
+        length-append met_so_far left,
+        ap length e,
+        few_met l.lots (lot_rows l) s.narrow (following_in (lot_rows l) s.narrow (header_of (lot_rows l) i)),
+      )
+
+  -- the lot of the next cell is put behind the others
+  pub listed_turns : (now out : List ℕ) (met_so_far left : List ℕ) (count c : ℕ) (more : List ℕ) → Listed l i s old now met_so_far left count → left ≡ c ∷ more →
+      answer_need l ≤ length old → out ≡ (line_put count (lot_bytes (lot_of (lot_record l c s))) now).left → Listed l i s old out (met_so_far ++ c ∷ []) more (count + 1)
+  listed_turns now out met_so_far left count c more x next room e =
       let head : length (take 9 old) ≡ 9 = length-take-le 9 old (omega arith) in
-      let fit : 9 + 32 * length x.met + 32 ≤ length old = omega (arith, x.counted) in
+      let many : length (lots_at l s met_so_far) ≡ length met_so_far = length-map met_so_far (λ k. lot_of (lot_record l k s)) in
+      let fit : 9 + 32 * length (lots_at l s met_so_far) + 32 ≤ length old = omega (arith, x.counted, many, room, room_left now met_so_far left count c more x next) in
+      let pushed : lots_at l s (met_so_far ++ c ∷ []) ≡ lots_at l s met_so_far ++ (lot_of (lot_record l c s) ∷ []) = map-append (λ k. lot_of (lot_record l k s)) met_so_far (c ∷ []) in
       record {
-        met = x.met ++ (lot_of (lot_record l c s) ∷ []);
-        counted = omega (arith, x.counted, length_push x.met (lot_of (lot_record l c s)));
-        few = omega (arith, x.few);
+        along = append_assoc met_so_far (c ∷ []) more ∙ ap (λ (ys : List ℕ). met_so_far ++ ys) (sym next) ∙ x.along;
+        counted = omega (arith, x.counted, length_push met_so_far c);
         lines = e
-            ∙ ap (λ (k : ℕ). (line_put k (lot_bytes (lot_of (lot_record l c s))) now).left) x.counted
-            ∙ ap (λ (b : List ℕ). (line_put (length x.met) (lot_bytes (lot_of (lot_record l c s))) b).left) x.lines
-            ∙ (lists_compose.0 (take 9 old) old x.met (lot_of (lot_record l c s)) head fit).1;
-        rest = walk_turns (lots_step l s) h s.narrow h.cells turn place c x.met _ lt is refl ∙ x.rest;
+            ∙ ap (λ (k : ℕ). (line_put k (lot_bytes (lot_of (lot_record l c s))) now).left) (x.counted ∙ sym many)
+            ∙ ap (λ (b : List ℕ). (line_put (length (lots_at l s met_so_far)) (lot_bytes (lot_of (lot_record l c s))) b).left) x.lines
+            ∙ (lists_compose.0 (take 9 old) old (lots_at l s met_so_far) (lot_of (lot_record l c s)) head fit).1
+            ∙ ap (λ (xs : List Lot). over (take 9 old ++ flat_map lot_bytes xs) old) (sym pushed);
       }
 
-  -- what is promised of all lots, where those met so far are all
+  -- what is promised of all lots, where no cell is left
   pub record Complete (now : List ℕ) (count : ℕ) : Type 0 where
     pub counted : count ≡ length (lots_met l i s)
+    pub few : count ≤ l.lots
     pub lines : now ≡ over (take 9 old ++ flat_map lot_bytes (lots_met l i s)) old
 
-  complete : (now : List ℕ) (turn place count : ℕ) (x : Listed l i s h old now turn place count) → x.met ≡ lots_met l i s → Complete now count
-  complete now turn place count x e =
-      record { counted = x.counted ∙ ap length e; lines = x.lines ∙ ap (λ (xs : List Lot). over (take 9 old ++ flat_map lot_bytes xs) old) e }
-
-  pub listed_stops : (now : List ℕ) (turn place count : ℕ) → Listed l i s h old now turn place count → None ≡ following_in h s.narrow place → Complete now count
-  listed_stops now turn place count x is =
-      complete now turn place count x (sym (walk_stops (lots_step l s) h s.narrow (h.cells - turn) place x.met is) ∙ x.rest)
-
-  pub listed_ends : (now : List ℕ) (turn place count : ℕ) → Listed l i s h old now turn place count → h.cells ≤ turn → Complete now count
-  listed_ends now turn place count x le =
-      complete now turn place count x (sym (walk_ends (lots_step l s) h s.narrow h.cells turn place x.met le) ∙ x.rest)
+  pub listed_ends : (now : List ℕ) (met_so_far left : List ℕ) (count : ℕ) → Listed l i s old now met_so_far left count → left ≡ [] → Complete now count
+  listed_ends now met_so_far left count x none =
+      let all : met_so_far ≡ cells_in (lot_rows l) s.narrow i = sym (append-nil met_so_far) ∙ ap (λ (ys : List ℕ). met_so_far ++ ys) (sym none) ∙ x.along in
+      let lots : lots_at l s met_so_far ≡ lots_met l i s = ap (lots_at l s) all ∙ sym (lots_met_at l s i) in
+      let many : count ≡ length (lots_met l i s) = x.counted ∙ sym (length-map met_so_far (λ k. lot_of (lot_record l k s))) ∙ ap length lots in
+      record {
+        counted = many;
+        few = omega (arith, many, met_few l s i);
+        lines = x.lines ∙ ap (λ (xs : List Lot). over (take 9 old ++ flat_map lot_bytes xs) old) lots;
+      }
 
 -- another head of as many bytes over the first, with what stands behind it
 pub over_head : (head first body old : List ℕ) → length first ≡ length head → length head + length body ≤ length old → over head (over (first ++ body) old) ≡ over (head ++ body) old
@@ -104,14 +141,3 @@ listed_whole l ls n old mid out is few room e f =
     fits (list_head 3 n ++ flat_map lot_bytes ls) old out (9 + 32 * n) long (omega arith) all
     ∙ ap (λ (k : ℕ). written (list_head 3 k ++ flat_map lot_bytes ls) old) is
     ∙ sym (cond-true (leb (answer_need l) (length old)) _ _ (le-leb _ _ room))
-
--- no more lots are met than there are cells
-walked_few : (l : Limits) (s : State) (k : ℕ) (h : Shape) (n : List ℕ) (o : Option ℕ) (xs : List Lot) → length (walked_on (lots_step l s) k h n o xs) ≤ length xs + k
-walked_few l s zero h n o xs = omega arith
-walked_few l s (suc k) h n None xs = omega arith
-walked_few l s (suc k) h n (Some c) xs =
-    omega (arith, walked_few l s k h n (following_in h n c) (xs ++ (lot_of (lot_record l c s) ∷ [])), length_push xs (lot_of (lot_record l c s)))
-
-pub met_few : (l : Limits) (i : ℕ) (s : State) → length (lots_met l i s) ≤ l.lots
-unfolding lots_met
-met_few l i s = omega (arith, walked_few l s l.lots (lot_rows l) s.narrow (following_in (lot_rows l) s.narrow (header_of (lot_rows l) i)) [])

@@ -1,16 +1,10 @@
 -- The laws of getting after putting, proved once for any kind of record, and at each of the kinds.
-use Rattle.std.proofs.Common.{◌≡◌, ℕ, ◌+◌, ◌≤◌, Bool, true, false, cond, ◌&&◌, eqb, leb, length, get_or, sym, refl, ap, ◌∙◌, subst, ap₂, arith}
+use Rattle.std.proofs.Common.{◌≡◌, ℕ, ◌+◌, ◌≤◌, true, cond, ◌&&◌, leb, length, get_or, sym, refl, ap, ◌∙◌, subst, ap₂, arith}
 use Rattle.std.proofs.lemmas.Bool.{cond_both, cond-true, le-leb, leb-true, and_from, and_parts}
 use Rattle.records.specs.Kind.{fits, word, over, Kind, lies, read, write, Outside, Sound, Laws}
 use Rattle.records.specs.Kinds.{lot_kind, order_kind, entry_kind, part_kind, recipe_kind, stock_kind, balance_kind, RecordLaws}
+use Rattle.records.specs.Sound.{lot_sound, order_sound, entry_sound, part_sound, recipe_sound, stock_sound, balance_sound}
 use Rattle.records.specs.State.{State, state}
-use Rattle.records.specs.declared.balance.Balance.{Balance}
-use Rattle.records.specs.declared.entry.Entry.{Entry}
-use Rattle.records.specs.declared.lot.Lot.{Lot}
-use Rattle.records.specs.declared.order.Order.{Order}
-use Rattle.records.specs.declared.part.Part.{Part}
-use Rattle.records.specs.declared.recipe.Recipe.{Recipe}
-use Rattle.records.specs.declared.stock.Stock.{Stock}
 use Rattle.records.proofs.Over.{length_over, over_same, over_other, word_is}
 
 module _ {X : Type 0} (k : Kind X) (sound : Sound k) where
@@ -59,96 +53,6 @@ module _ {X : Type 0} (k : Kind X) (sound : Sound k) where
         (λ w n. over_other b (k.narrow_words x) s.narrow (narrow_fits a b x s w n) i (subst (λ (m : ℕ). Outside b m i) (sym (sound.narrow_long x)) out)) refl;
     long = λ a b x s. by_write a b x s (λ (t : State). (length t.wide ≡ length s.wide) × (length t.narrow ≡ length s.narrow)) (λ w n. put_long a b x s w n) (refl, refl);
   }
-
--- EACH KIND
-ap₄ : {X : Type 0} (f : ℕ → ℕ → ℕ → ℕ → X) {a b c d a' b' c' d' : ℕ} → a ≡ a' → b ≡ b' → c ≡ c' → d ≡ d' → f a b c d ≡ f a' b' c' d'
-ap₄ f p q r t = cc
-
-sells_kept : (b : Bool) → eqb (cond b 1 0) 1 ≡ b
-sells_kept true = refl
-sells_kept false = refl
-
-abbrev lot : ℕ → ℕ → ℕ → ℕ → Lot
-lot a b c d = record { item = a; pieces = b; cost = c; «document» = d }
-
-lot_sound : Sound lot_kind
-lot_sound = record {
-  wide_long = λ x. refl;
-  narrow_long = λ x. refl;
-  again = λ x f g w n. ap₄ lot (n 0 (omega arith)) (n 1 (omega arith)) (w 0 (omega arith)) (w 1 (omega arith));
-  alike = λ f g f' g' w n. ap₄ lot (n 0 (omega arith)) (n 1 (omega arith)) (w 0 (omega arith)) (w 1 (omega arith));
-}
-
-abbrev entry : ℕ → ℕ → ℕ → ℕ → Entry
-entry a b c d = record { left = a; right = b; amount = c; «document» = d }
-
-entry_sound : Sound entry_kind
-entry_sound = record {
-  wide_long = λ x. refl;
-  narrow_long = λ x. refl;
-  again = λ x f g w n. ap₄ entry (n 0 (omega arith)) (n 1 (omega arith)) (w 0 (omega arith)) (w 1 (omega arith));
-  alike = λ f g f' g' w n. ap₄ entry (n 0 (omega arith)) (n 1 (omega arith)) (w 0 (omega arith)) (w 1 (omega arith));
-}
-
-abbrev part : ℕ → ℕ → Part
-part a b = record { item = a; each = b }
-
-part_sound : Sound part_kind
-part_sound = record {
-  wide_long = λ x. refl;
-  narrow_long = λ x. refl;
-  again = λ x f g w n. ap₂ part (n 0 (omega arith)) (n 1 (omega arith));
-  alike = λ f g f' g' w n. ap₂ part (n 0 (omega arith)) (n 1 (omega arith));
-}
-
-abbrev recipe : ℕ → ℕ → Recipe
-recipe a b = record { first = a; parts = b }
-
-recipe_sound : Sound recipe_kind
-recipe_sound = record {
-  wide_long = λ x. refl;
-  narrow_long = λ x. refl;
-  again = λ x f g w n. ap₂ recipe (n 0 (omega arith)) (n 1 (omega arith));
-  alike = λ f g f' g' w n. ap₂ recipe (n 0 (omega arith)) (n 1 (omega arith));
-}
-
-abbrev stock : ℕ → ℕ → Stock
-stock a b = record { pieces = a; worth = b }
-
-stock_sound : Sound stock_kind
-stock_sound = record {
-  wide_long = λ x. refl;
-  narrow_long = λ x. refl;
-  again = λ x f g w n. ap₂ stock (w 0 (omega arith)) (w 1 (omega arith));
-  alike = λ f g f' g' w n. ap₂ stock (w 0 (omega arith)) (w 1 (omega arith));
-}
-
-abbrev balance : ℕ → ℕ → Balance
-balance a b = record { left = a; right = b }
-
-balance_sound : Sound balance_kind
-balance_sound = record {
-  wide_long = λ x. refl;
-  narrow_long = λ x. refl;
-  again = λ x f g w n. ap₂ balance (w 0 (omega arith)) (w 1 (omega arith));
-  alike = λ f g f' g' w n. ap₂ balance (w 0 (omega arith)) (w 1 (omega arith));
-}
-
-abbrev order : Bool → ℕ → ℕ → ℕ → ℕ → ℕ → Order
-order a b c d e f = record { sells = a; item = b; pieces = c; price = d; moved = e; billed = f }
-
-order_same : (a a' : Bool) (b c d e f b' c' d' e' f' : ℕ) → a ≡ a' → b ≡ b' → c ≡ c' → d ≡ d' → e ≡ e' → f ≡ f' → order a b c d e f ≡ order a' b' c' d' e' f'
-order_same a a' b c d e f b' c' d' e' f' p q r t u v = cc
-
-order_sound : Sound order_kind
-order_sound = record {
-  wide_long = λ x. refl;
-  narrow_long = λ x. refl;
-  again = λ x f g w n.
-      order_same _ _ _ _ _ _ _ _ _ _ _ _ (ap (λ (i : ℕ). eqb i 1) (n 0 (omega arith)) ∙ sells_kept x.sells) (n 1 (omega arith)) (n 2 (omega arith)) (n 3 (omega arith)) (n 4 (omega arith)) (n 5 (omega arith));
-  alike = λ f g f' g' w n.
-      order_same _ _ _ _ _ _ _ _ _ _ _ _ (ap (λ (i : ℕ). eqb i 1) (n 0 (omega arith))) (n 1 (omega arith)) (n 2 (omega arith)) (n 3 (omega arith)) (n 4 (omega arith)) (n 5 (omega arith));
-}
 
 pub record_laws : RecordLaws
 record_laws = record {

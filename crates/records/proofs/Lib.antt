@@ -1,3 +1,3 @@
-pub mod Parts
 pub mod Over
+pub mod Parts
 pub mod Laws

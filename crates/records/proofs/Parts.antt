@@ -1,38 +1,27 @@
--- A part of a slice all of whose words are written: those words over the slice.
-use Rattle.std.proofs.Common.{◌≡◌, ℕ, ◌+◌, ◌-◌, ◌≤◌, List, [], ◌∷◌, ◌++◌, length, take, drop, set, sym, refl, ap, ◌∙◌, arith, length-drop}
+-- Rows in the middle of slices: what a part of one leaves all of whose words are written, and what is made of two that are read.
+use Rattle.std.proofs.Common.{◌≡◌, ℕ, ◌+◌, ◌-◌, ◌<◌, ◌≤◌, List, ◌++◌, length, get_or, take, drop, sym, ap, ◌∙◌, arith}
 use borrow.Rule.Slice.PartMut.{put_mid}
-use Rattle.std.proofs.lemmas.List.{length-take-le, drop-drop}
-use Rattle.records.specs.Kind.{over}
+use Rattle.std.proofs.lemmas.Bool.{cond-true, le-leb, and_from}
+use Rattle.std.proofs.lemmas.List.{drop-drop, get_or-take, get_or-drop}
+use Rattle.records.specs.Kind.{over, word, Kind, Sound, lies, read}
+use Rattle.records.specs.State.{state}
+use Rattle.records.proofs.Over.{word_is}
 
-part_long : (a k : ℕ) (s : List ℕ) → a + k ≤ length s → length (take (a + k - a) (drop a s)) ≡ k
-part_long a k s h = let e : a + k - a ≡ k = omega arith in ap (λ (j : ℕ). length (take j (drop a s))) e ∙ length-take-le k (drop a s) (rw (length-drop a s) (omega arith))
-
-part_over : (a k : ℕ) (s ps ws : List ℕ) → length ws ≡ k → ps ≡ ws → put_mid a (a + k - a) s ps ≡ over a ws s
+pub part_over : {W : Type 0} (a k : ℕ) (s ps ws : List W) → length ws ≡ k → ps ≡ ws → put_mid a (a + k - a) s ps ≡ over a ws s
 unfolding over
-part_over a k s ps ws long e =
+part_over {W} a k s ps ws long e =
     let d : a + k - a ≡ k = omega arith in
-    ap (λ (ys : List ℕ). put_mid a (a + k - a) s ys) e ∙ ap (λ (j : ℕ). take a s ++ (ws ++ drop j (drop a s))) d
-    ∙ ap (λ (zs : List ℕ). take a s ++ (ws ++ zs)) (drop-drop k a s ∙ ap (λ (j : ℕ). drop (a + j) s) (sym long))
+    ap (λ (ys : List W). put_mid a (a + k - a) s ys) e ∙ ap (λ (j : ℕ). take a s ++ (ws ++ drop j (drop a s))) d
+    ∙ ap (λ (zs : List W). take a s ++ (ws ++ zs)) (drop-drop k a s ∙ ap (λ (j : ℕ). drop (a + j) s) (sym long))
 
-two : (ps : List ℕ) (x y : ℕ) → length ps ≡ 2 → set (set ps 0 x) 1 y ≡ x ∷ y ∷ []
-two [] x y e = absurd (omega arith)
-two (p ∷ []) x y e = absurd (omega arith)
-two (p ∷ q ∷ []) x y e = refl
-two (p ∷ q ∷ r ∷ ps) x y e = absurd (omega arith)
+-- a word of a row that is read
+row_word : (s ws : List ℕ) (a k j : ℕ) → ws ≡ take k (drop a s) → j < k → word ws 0 j ≡ word s a j
+row_word s ws a k j e lt =
+    let z : 0 + j ≡ j = omega arith in
+    word_is ws 0 j ∙ ap (λ (i : ℕ). get_or ws i 0) z ∙ ap (λ (t : List ℕ). get_or t j 0) e ∙ get_or-take k (drop a s) j 0 lt ∙ get_or-drop a s j 0 ∙ sym (word_is s a j)
 
-pub two_over : (a : ℕ) (s : List ℕ) (x y : ℕ) → a + 2 ≤ length s → put_mid a (a + 2 - a) s (set (set (take (a + 2 - a) (drop a s)) 0 x) 1 y) ≡ over a (x ∷ y ∷ []) s
-two_over a s x y h = part_over a 2 s _ (x ∷ y ∷ []) refl (two (take (a + 2 - a) (drop a s)) x y (part_long a 2 s h))
-
-six : (ps : List ℕ) (u v w x y z : ℕ) → length ps ≡ 6 → set (set (set (set (set (set ps 0 u) 1 v) 2 w) 3 x) 4 y) 5 z ≡ u ∷ v ∷ w ∷ x ∷ y ∷ z ∷ []
-six [] u v w x y z e = absurd (omega arith)
-six (a ∷ []) u v w x y z e = absurd (omega arith)
-six (a ∷ b ∷ []) u v w x y z e = absurd (omega arith)
-six (a ∷ b ∷ c ∷ []) u v w x y z e = absurd (omega arith)
-six (a ∷ b ∷ c ∷ d ∷ []) u v w x y z e = absurd (omega arith)
-six (a ∷ b ∷ c ∷ d ∷ f ∷ []) u v w x y z e = absurd (omega arith)
-six (a ∷ b ∷ c ∷ d ∷ f ∷ g ∷ []) u v w x y z e = refl
-six (a ∷ b ∷ c ∷ d ∷ f ∷ g ∷ h ∷ ps) u v w x y z e = absurd (omega arith)
-
-pub six_over : (a : ℕ) (s : List ℕ) (u v w x y z : ℕ) → a + 6 ≤ length s →
-    put_mid a (a + 6 - a) s (set (set (set (set (set (set (take (a + 6 - a) (drop a s)) 0 u) 1 v) 2 w) 3 x) 4 y) 5 z) ≡ over a (u ∷ v ∷ w ∷ x ∷ y ∷ z ∷ []) s
-six_over a s u v w x y z h = part_over a 6 s _ (u ∷ v ∷ w ∷ x ∷ y ∷ z ∷ []) refl (six (take (a + 6 - a) (drop a s)) u v w x y z (part_long a 6 s h))
+pub read_rows : {X : Type 0} (k : Kind X) (sound : Sound k) (two : (k.wide_size ≡ 2) × (k.narrow_size ≡ 2)) (a b : ℕ) (w n p q : List ℕ) →
+    a + 2 ≤ length w → b + 2 ≤ length n → p ≡ take 2 (drop a w) → q ≡ take 2 (drop b n) → k.made (word p 0) (word q 0) ≡ read k a b (state w n)
+read_rows k sound two a b w n p q wide narrow ep eq =
+    sound.alike (word w a) (word n b) (word p 0) (word q 0) (λ j lt. row_word w p a 2 j ep (omega (arith, two.0))) (λ j lt. row_word n q b 2 j eq (omega (arith, two.1)))
+    ∙ sym (cond-true (lies k a b (state w n)) _ _ (and_from _ _ (le-leb (a + k.wide_size) (length w) (omega (arith, two.0))) (le-leb (b + k.narrow_size) (length n) (omega (arith, two.1)))))

@@ -1,18 +1,22 @@
 -- A kind of record, kept in a row of words of each slice: how one is read and written at any address of any memory, and the laws of it.
-use Rattle.std.specs.Prelude.{◌≡◌, ℕ, zero, suc, ◌+◌, ◌<◌, ◌≤◌, Bool, cond, ◌&&◌, ◌⊎◌, List, [], ◌++◌, length, take, drop, nat_le, slice_index}
+use Rattle.std.specs.Prelude.{◌≡◌, ℕ, zero, suc, ◌+◌, ◌<◌, ◌≤◌, Bool, cond, ◌&&◌, ◌⊎◌, List, [], ◌++◌, length, take, drop, nat_le, slice_index, slice_index_or}
 use Rattle.records.specs.State.{State, state}
 
 -- the k words from a on lie in the list
-abbrev pub fits : ℕ → ℕ → List ℕ → Bool
+abbrev pub fits : {W : Type 0} → ℕ → ℕ → List W → Bool
 fits a k s = nat_le (a + k) (length s)
 
--- the word j of the row at a
+-- the word j of the row at a, and z past the end
+abbrev pub word_or : {W : Type 0} → W → List W → ℕ → ℕ → W
+word_or z s a zero = slice_index_or s a z
+word_or z s a (suc j) = slice_index_or s (a + suc j) z
+
+-- the same for numbers, and 0 past the end
 abbrev pub word : List ℕ → ℕ → ℕ → ℕ
-word s a zero = slice_index s a
-word s a (suc j) = slice_index s (a + suc j)
+word = word_or 0
 
 -- the words ws over those from a on
-unfoldable pub over : ℕ → List ℕ → List ℕ → List ℕ
+unfoldable pub over : {W : Type 0} → ℕ → List W → List W → List W
 over a ws s = take a s ++ (ws ++ drop (a + length ws) s)
 
 -- how many words of each slice a record takes, which ones, how it is made of them, and the record of nothing
@@ -48,6 +52,17 @@ read_narrow k a n = cond (fits a k.narrow_size n) (k.made (word [] 0) (word n a)
 
 abbrev pub write_narrow : {X : Type 0} → Kind X → ℕ → X → List ℕ → List ℕ
 write_narrow k a x n = cond (fits a k.narrow_size n) (over a (k.narrow_words x) n) n
+
+-- the same for a record in a row of k words of one slice, of any word: made of the words from a on, or nothing, and put as its words
+abbrev pub read_row : {W X : Type 0} → W → ℕ → ((ℕ → W) → X) → X → ℕ → List W → X
+read_row z k made nothing a s = cond (fits a k s) (made (word_or z s a)) nothing
+
+abbrev pub write_row : {W X : Type 0} → ℕ → (X → List W) → ℕ → X → List W → List W
+write_row k words a x s = cond (fits a k s) (over a (words x) s) s
+
+-- what is made of k words depends on these alone
+abbrev pub Alike : {W X : Type 0} → ℕ → ((ℕ → W) → X) → Type 0
+Alike {W} k made = (f g : ℕ → W) → ((j : ℕ) → j < k → f j ≡ g j) → made f ≡ made g
 
 -- i is none of the k words from a on
 abbrev pub Outside : ℕ → ℕ → ℕ → Type 0

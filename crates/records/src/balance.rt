@@ -1,39 +1,39 @@
 //! The sums that are kept for an account.
 
-ghost use Rattle.std.specs.Prelude.{◌≡◌};
-ghost use Rattle.records.specs.Kind.{read_wide, write_wide};
+ghost use Rattle.std.specs.Prelude.{[]};
+ghost use Rattle.std.proofs.Common.{rules};
+ghost use Rattle.records.specs.Kind.{word};
 ghost use Rattle.records.specs.Kinds.{balance_kind};
+ghost use Rattle.records.specs.Sound.{balance_sound, wide_alike};
 
-use super::rows;
+use super::row::Row;
 
 /// The sums of an account's entries, on its left and on its right.
-#[derive(Clone, Copy)]
+#[derive(Clone, Copy, PartialEq, Eq, Debug, Default)]
 pub struct Balance {
     pub left: u64,
     pub right: u64,
 }
 
-impl Balance {
-    /// The sums whose row lies at `at`, or that of nothing where the row is not wholly there.
-    pub fn read(wide: &[u64], at: usize) -> Balance
-        ensures { result ≡ read_wide balance_kind at wide.now }
-    {
-        if rows::lies(wide.len(), at, 2) {
-            Balance {
-                left: wide[at],
-                right: wide[at + 1],
-            }
-        } else {
-            Balance { left: 0, right: 0 }
-        }
+impl Row<u64, 2> for Balance {
+    ghost words = { balance_kind.wide_words };
+
+    ghost made = { λ f. balance_kind.made f (word [] 0) };
+
+    ghost nothing = { balance_kind.nothing };
+
+    fn from_words(row: &[u64; 2]) -> Balance {
+        let [left, right] = *row;
+        Balance { left, right }
     }
 
-    /// Writes the sums to the row at `at`, if it is wholly there.
-    pub fn write(self, wide: &mut [u64], at: usize)
-        ensures { wide.new ≡ write_wide balance_kind at self wide.old }
-    {
-        if rows::lies(wide.len(), at, 2) {
-            rows::put_wide_pair(wide, at, self.left, self.right);
-        }
+    fn to_words(self) -> [u64; 2] {
+        [self.left, self.right]
     }
+
+    ghost fits = { Prim.search rules };
+
+    ghost alike = { wide_alike balance_sound };
+
+    ghost nothing_by_default = { Prim.search rules };
 }

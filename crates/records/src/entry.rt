@@ -1,14 +1,14 @@
 //! Entries in the two slices.
 
-ghost use Rattle.std.specs.Prelude.{◌≡◌};
-ghost use Rattle.records.specs.Kind.{read, write};
+ghost use Rattle.std.specs.Prelude.{refl};
+ghost use Rattle.std.proofs.Common.{rules};
 ghost use Rattle.records.specs.Kinds.{entry_kind};
-ghost use Rattle.records.specs.State.{state};
+ghost use Rattle.records.specs.Sound.{entry_sound};
 
-use super::rows;
+use super::rows::Rows;
 
 /// An amount on the left of one account and on the right of another.
-#[derive(Clone, Copy)]
+#[derive(Clone, Copy, PartialEq, Eq, Debug, Default)]
 pub struct Entry {
     pub left: u32,
     pub right: u32,
@@ -16,35 +16,27 @@ pub struct Entry {
     pub document: u64,
 }
 
-impl Entry {
-    /// The entry whose rows lie at `wide_at` and `narrow_at`, or that of nothing where they are not wholly there.
-    pub fn read(wide: &[u64], narrow: &[u32], wide_at: usize, narrow_at: usize) -> Entry
-        ensures { result ≡ read entry_kind wide_at narrow_at (state wide.now narrow.now) }
-    {
-        if rows::lies(wide.len(), wide_at, 2) && rows::lies(narrow.len(), narrow_at, 2) {
-            Entry {
-                left: narrow[narrow_at],
-                right: narrow[narrow_at + 1],
-                amount: wide[wide_at],
-                document: wide[wide_at + 1],
-            }
-        } else {
-            Entry {
-                left: 0,
-                right: 0,
-                amount: 0,
-                document: 0,
-            }
+impl Rows for Entry {
+    ghost kind = { entry_kind };
+
+    fn from_words(wide: &[u64; 2], narrow: &[u32; 2]) -> Entry {
+        let [amount, document] = *wide;
+        let [left, right] = *narrow;
+        Entry {
+            left,
+            right,
+            amount,
+            document,
         }
     }
 
-    /// Writes the entry to the rows at `wide_at` and `narrow_at`, if they are wholly there.
-    pub fn write(self, wide: &mut [u64], narrow: &mut [u32], wide_at: usize, narrow_at: usize)
-        ensures { state wide.new narrow.new ≡ write entry_kind wide_at narrow_at self (state wide.old narrow.old) }
-    {
-        if rows::lies(wide.len(), wide_at, 2) && rows::lies(narrow.len(), narrow_at, 2) {
-            rows::put_wide_pair(wide, wide_at, self.amount, self.document);
-            rows::put_narrow_pair(narrow, narrow_at, self.left, self.right);
-        }
+    fn to_words(self) -> ([u64; 2], [u32; 2]) {
+        ([self.amount, self.document], [self.left, self.right])
     }
+
+    ghost of_two = { (refl, refl) };
+
+    ghost sound = { entry_sound };
+
+    ghost nothing_by_default = { Prim.search rules };
 }

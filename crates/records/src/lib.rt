@@ -11,8 +11,10 @@ mod lot;
 mod order;
 mod part;
 mod recipe;
+mod row;
 mod rows;
 mod stock;
+mod words;
 
 pub use balance::Balance;
 pub use entry::Entry;
@@ -20,11 +22,12 @@ pub use lot::Lot;
 pub use order::Order;
 pub use part::Part;
 pub use recipe::Recipe;
+pub use row::Row;
+pub use rows::Rows;
 pub use stock::Stock;
 
 /// The laws of getting after putting, for each kind of record.
-pub fn records_stand() -> u8
+#[tactic(auto, using(crate::proofs::Laws::record_laws))]
+pub fn records_stand()
     ensures { RecordLaws }
-{
-    0
-}
+{}

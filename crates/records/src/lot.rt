@@ -1,14 +1,14 @@
 //! Lots in the two slices.
 
-ghost use Rattle.std.specs.Prelude.{◌≡◌};
-ghost use Rattle.records.specs.Kind.{read, write};
+ghost use Rattle.std.specs.Prelude.{refl};
+ghost use Rattle.std.proofs.Common.{rules};
 ghost use Rattle.records.specs.Kinds.{lot_kind};
-ghost use Rattle.records.specs.State.{state};
+ghost use Rattle.records.specs.Sound.{lot_sound};
 
-use super::rows;
+use super::rows::Rows;
 
 /// So many pieces of an item, what they cost together, and the document that they came with.
-#[derive(Clone, Copy)]
+#[derive(Clone, Copy, PartialEq, Eq, Debug, Default)]
 pub struct Lot {
     pub item: u32,
     pub pieces: u32,
@@ -16,35 +16,27 @@ pub struct Lot {
     pub document: u64,
 }
 
-impl Lot {
-    /// The lot whose rows lie at `wide_at` and `narrow_at`, or that of nothing where they are not wholly there.
-    pub fn read(wide: &[u64], narrow: &[u32], wide_at: usize, narrow_at: usize) -> Lot
-        ensures { result ≡ read lot_kind wide_at narrow_at (state wide.now narrow.now) }
-    {
-        if rows::lies(wide.len(), wide_at, 2) && rows::lies(narrow.len(), narrow_at, 2) {
-            Lot {
-                item: narrow[narrow_at],
-                pieces: narrow[narrow_at + 1],
-                cost: wide[wide_at],
-                document: wide[wide_at + 1],
-            }
-        } else {
-            Lot {
-                item: 0,
-                pieces: 0,
-                cost: 0,
-                document: 0,
-            }
+impl Rows for Lot {
+    ghost kind = { lot_kind };
+
+    fn from_words(wide: &[u64; 2], narrow: &[u32; 2]) -> Lot {
+        let [cost, document] = *wide;
+        let [item, pieces] = *narrow;
+        Lot {
+            item,
+            pieces,
+            cost,
+            document,
         }
     }
 
-    /// Writes the lot to the rows at `wide_at` and `narrow_at`, if they are wholly there.
-    pub fn write(self, wide: &mut [u64], narrow: &mut [u32], wide_at: usize, narrow_at: usize)
-        ensures { state wide.new narrow.new ≡ write lot_kind wide_at narrow_at self (state wide.old narrow.old) }
-    {
-        if rows::lies(wide.len(), wide_at, 2) && rows::lies(narrow.len(), narrow_at, 2) {
-            rows::put_wide_pair(wide, wide_at, self.cost, self.document);
-            rows::put_narrow_pair(narrow, narrow_at, self.item, self.pieces);
-        }
+    fn to_words(self) -> ([u64; 2], [u32; 2]) {
+        ([self.cost, self.document], [self.item, self.pieces])
     }
+
+    ghost of_two = { (refl, refl) };
+
+    ghost sound = { lot_sound };
+
+    ghost nothing_by_default = { Prim.search rules };
 }

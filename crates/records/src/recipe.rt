@@ -1,40 +1,41 @@
 //! Where recipes lie.
 
-ghost use Rattle.std.specs.Prelude.{◌≡◌};
-ghost use Rattle.records.specs.Kind.{read_narrow, write_narrow};
+ghost use Rattle.std.specs.Prelude.{[]};
+ghost use Rattle.std.proofs.Common.{rules};
+ghost use Rattle.records.specs.Kind.{word};
 ghost use Rattle.records.specs.Kinds.{recipe_kind};
+ghost use Rattle.records.specs.Sound.{recipe_sound, narrow_alike};
 
-use super::rows;
+use super::row::Row;
 
 /// Where the recipe of an item lies: one more than the index of its first row among the parts, or 0 where the item has no
 /// recipe; and how many parts it has.
-#[derive(Clone, Copy)]
+// No `Option`: the record is its two words in lent memory, where 0 says that there is none.
+#[derive(Clone, Copy, PartialEq, Eq, Debug, Default)]
 pub struct Recipe {
     pub first: u32,
     pub parts: u32,
 }
 
-impl Recipe {
-    /// The recipe whose row lies at `at`, or that of nothing where the row is not wholly there.
-    pub fn read(narrow: &[u32], at: usize) -> Recipe
-        ensures { result ≡ read_narrow recipe_kind at narrow.now }
-    {
-        if rows::lies(narrow.len(), at, 2) {
-            Recipe {
-                first: narrow[at],
-                parts: narrow[at + 1],
-            }
-        } else {
-            Recipe { first: 0, parts: 0 }
-        }
+impl Row<u32, 2> for Recipe {
+    ghost words = { recipe_kind.narrow_words };
+
+    ghost made = { recipe_kind.made (word [] 0) };
+
+    ghost nothing = { recipe_kind.nothing };
+
+    fn from_words(row: &[u32; 2]) -> Recipe {
+        let [first, parts] = *row;
+        Recipe { first, parts }
     }
 
-    /// Writes the recipe to the row at `at`, if it is wholly there.
-    pub fn write(self, narrow: &mut [u32], at: usize)
-        ensures { narrow.new ≡ write_narrow recipe_kind at self narrow.old }
-    {
-        if rows::lies(narrow.len(), at, 2) {
-            rows::put_narrow_pair(narrow, at, self.first, self.parts);
-        }
+    fn to_words(self) -> [u32; 2] {
+        [self.first, self.parts]
     }
+
+    ghost fits = { Prim.search rules };
+
+    ghost alike = { narrow_alike recipe_sound };
+
+    ghost nothing_by_default = { Prim.search rules };
 }

@@ -1,42 +1,39 @@
 //! The sums that are kept for an item.
 
-ghost use Rattle.std.specs.Prelude.{◌≡◌};
-ghost use Rattle.records.specs.Kind.{read_wide, write_wide};
+ghost use Rattle.std.specs.Prelude.{[]};
+ghost use Rattle.std.proofs.Common.{rules};
+ghost use Rattle.records.specs.Kind.{word};
 ghost use Rattle.records.specs.Kinds.{stock_kind};
+ghost use Rattle.records.specs.Sound.{stock_sound, wide_alike};
 
-use super::rows;
+use super::row::Row;
 
 /// How many pieces of an item lie on hand, and what they cost together.
-#[derive(Clone, Copy)]
+#[derive(Clone, Copy, PartialEq, Eq, Debug, Default)]
 pub struct Stock {
     pub pieces: u64,
     pub worth: u64,
 }
 
-impl Stock {
-    /// The sums whose row lies at `at`, or that of nothing where the row is not wholly there.
-    pub fn read(wide: &[u64], at: usize) -> Stock
-        ensures { result ≡ read_wide stock_kind at wide.now }
-    {
-        if rows::lies(wide.len(), at, 2) {
-            Stock {
-                pieces: wide[at],
-                worth: wide[at + 1],
-            }
-        } else {
-            Stock {
-                pieces: 0,
-                worth: 0,
-            }
-        }
+impl Row<u64, 2> for Stock {
+    ghost words = { stock_kind.wide_words };
+
+    ghost made = { λ f. stock_kind.made f (word [] 0) };
+
+    ghost nothing = { stock_kind.nothing };
+
+    fn from_words(row: &[u64; 2]) -> Stock {
+        let [pieces, worth] = *row;
+        Stock { pieces, worth }
     }
 
-    /// Writes the sums to the row at `at`, if it is wholly there.
-    pub fn write(self, wide: &mut [u64], at: usize)
-        ensures { wide.new ≡ write_wide stock_kind at self wide.old }
-    {
-        if rows::lies(wide.len(), at, 2) {
-            rows::put_wide_pair(wide, at, self.pieces, self.worth);
-        }
+    fn to_words(self) -> [u64; 2] {
+        [self.pieces, self.worth]
     }
+
+    ghost fits = { Prim.search rules };
+
+    ghost alike = { wide_alike stock_sound };
+
+    ghost nothing_by_default = { Prim.search rules };
 }

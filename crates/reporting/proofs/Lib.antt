@@ -1,2 +1,4 @@
 pub mod Rows
+mod Aligned
+mod Numbers
 mod Seen

@@ -12,7 +12,7 @@ abbrev pub cell : ℕ → ℕ → List ℕ
 cell width n = aligned width (decimal n)
 
 abbrev pub cell_of : Cell → List ℕ
-cell_of c = cell c.width c.number
+cell_of c = cell c.0 c.1
 
 -- numbers beside each other
 abbrev pub cells : List Cell → List ℕ

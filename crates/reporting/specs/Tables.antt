@@ -8,7 +8,7 @@ use Rattle.reporting.specs.Columns.{aligned, cell, cells, rows_to}
 use Rattle.reporting.specs.declared.columns.Cell.{Cell}
 
 abbrev pub in_column : ℕ → ℕ → Cell
-in_column w n = record { width = w; number = n }
+in_column w n = record { 0 = w; 1 = n }
 
 -- STOCK: an item that has pieces, how many, and what they cost
 abbrev pub stock_cells : ℕ → ℕ → ℕ → List Cell

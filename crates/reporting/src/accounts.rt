@@ -1,115 +1,64 @@
 //! The table of accounts.
 
-ghost use Rattle.std.specs.Prelude.{◌≡◌, ◌++◌, OnOk};
-ghost use Rattle.records.specs.State.{state};
+ghost use Rattle.std.specs.Prelude.{◌≡◌, ◌++◌, OnOk, string_bytes};
+ghost use Rattle.memory.specs.Lent.{seen};
+ghost use Rattle.reporting.specs.Accounts.{number_of};
+ghost use Rattle.reporting.specs.Columns.{aligned};
 ghost use Rattle.reporting.specs.Shown.{account_shown, accounts_seen};
-ghost use Rattle.reporting.specs.Tables.{side, account_name, account_row};
+ghost use Rattle.reporting.specs.Tables.{side, account_row};
 
-use crate::columns::{Cell, put_aligned, put_cells};
-use layout::Limits;
-use std::alloc::{AllocError, Global};
+use crate::account::Account;
+use crate::columns::Cell;
+use memory::View;
+use std::alloc::AllocError;
+use std::cmp::Ordering;
 
-/// How many accounts there are.
-const ACCOUNTS: u32 = 9;
-
-fn name(account: u32) -> &'static [u8]
-    ensures { result.now ≡ account_name account }
+// The side that is more, in its column.
+#[tactic(auto, unfolding(crate::specs::Columns::aligned))]
+fn heavier(left: u64, right: u64) -> &'static str
+    ensures { result.now ≡ aligned 6 (side left right) }
 {
-    match account {
-        0 => b"stock",
-        1 => b"goods received and not billed",
-        2 => b"owed to suppliers",
-        3 => b"owed by customers",
-        4 => b"bank",
-        5 => b"sales",
-        6 => b"cost of sales",
-        7 => b"differences of price",
-        8 => b"losses",
-        _ => b"",
+    match left.cmp(&right) {
+        Ordering::Greater => "   left",
+        Ordering::Less => "  right",
+        Ordering::Equal => "   even",
     }
 }
 
-// The side that is more.
-fn heavier(left: u64, right: u64) -> &'static [u8]
-    ensures { result.now ≡ side left right }
+#[tactic(auto, unfolding(crate::specs::Tables::account_row))]
+fn put_row(out: &mut String, account: Account, left: u64, right: u64) -> Result<(), AllocError>
+    ensures { OnOk result (string_bytes out.new ≡ string_bytes out.old ++ account_row (number_of account) left right) }
 {
-    if right < left {
-        b"left"
-    } else if left < right {
-        b"right"
-    } else {
-        b"even"
-    }
-}
-
-fn put_row(
-    heap: Global,
-    out: &mut Vec<u8>,
-    account: u32,
-    left: u64,
-    right: u64,
-) -> Result<(), AllocError>
-    ensures { OnOk result (out.new.items ≡ out.old.items ++ account_row account left right) }
-{
-    let row = [
-        Cell {
-            width: 6,
-            number: account as u64,
-        },
-        Cell {
-            width: 16,
-            number: left,
-        },
-        Cell {
-            width: 16,
-            number: right,
-        },
-        Cell {
-            width: 16,
-            number: left.abs_diff(right),
-        },
-    ];
-    put_cells(heap, out, &row)?;
-    put_aligned(out, 6, heavier(left, right))?;
-    out.extend_from_slice(b"  ")?;
-    out.extend_from_slice(name(account))?;
-    out.extend_from_slice(b"\n")?;
-    Ok(())
+    let side = heavier(left, right);
+    writeln!(
+        out,
+        "{}{}{}{}{side}  {account}",
+        Cell(6, u64::from(account)),
+        Cell(16, left),
+        Cell(16, right),
+        Cell(16, left.abs_diff(right))
+    )
 }
 
 // Appends what stands on both sides of an account.
-fn put_account(
-    heap: Global,
-    out: &mut Vec<u8>,
-    wide: &[u64],
-    narrow: &[u32],
-    limits: Limits,
-    account: u32,
-) -> Result<(), AllocError>
-    ensures { OnOk result (out.new.items ≡ out.old.items ++ account_shown limits (state wide.now narrow.now) account) }
+fn put_account(out: &mut String, view: View<'_>, account: Account) -> Result<(), AllocError>
+    ensures { OnOk result (string_bytes out.new ≡ string_bytes out.old ++ account_shown view.entry.limits (seen view.entry) (number_of account)) }
 {
-    let Ok((left, right)) = rules::account(wide, narrow, limits, account as u64) else {
+    let Ok((left, right)) = rules::account(view, u64::from(account)) else {
         return Ok(());
     };
-    put_row(heap, out, account, left, right)?;
-    Ok(())
+    put_row(out, account, left, right)
 }
 
 /// Appends the table of accounts: all of them.
-pub fn put_accounts(
-    heap: Global,
-    out: &mut Vec<u8>,
-    wide: &[u64],
-    narrow: &[u32],
-    limits: Limits,
-) -> Result<(), AllocError>
-    ensures { OnOk result (out.new.items ≡ out.old.items ++ accounts_seen limits (state wide.now narrow.now)) }
+pub fn put_accounts(out: &mut String, view: View<'_>) -> Result<(), AllocError>
+    ensures { OnOk result (string_bytes out.new ≡ string_bytes out.old ++ accounts_seen view.entry.limits (seen view.entry)) }
 {
-    out.extend_from_slice(
-        b"accounts\n number             left            right          balance   side  name\n",
+    out.push_str(
+        "accounts\n number             left            right          balance   side  name\n",
     )?;
-    for account in 0..ACCOUNTS {
-        put_account(heap, out, wide, narrow, limits, account)?;
+    for account in Account::ALL {
+        put_account(out, view, account)?;
     }
     Ok(())
 }

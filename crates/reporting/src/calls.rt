@@ -1,47 +1,42 @@
 //! The last line of a report: how many calls were taken and turned away.
 
-ghost use Rattle.std.specs.Prelude.{◌≡◌, ◌++◌, OnOk, slice_index};
+ghost use Rattle.std.specs.Prelude.{◌≡◌, ◌++◌, OnOk, slice_index, string_bytes};
 ghost use Rattle.reporting.specs.Columns.{rows_to};
 ghost use Rattle.reporting.specs.Report.{by_shown, tally_line};
 
 use std::alloc::AllocError;
-use text::{REFUSALS, Tally};
-use words::put_number;
+use text::Tally;
 
 // Appends how many were turned away by a refusal, if any were.
-fn put_by(out: &mut Vec<u8>, count: u64, number: usize) -> Result<(), AllocError>
-    ensures { OnOk result (out.new.items ≡ out.old.items ++ by_shown count number) }
+fn put_by(out: &mut String, count: u64, number: usize) -> Result<(), AllocError>
+    ensures { OnOk result (string_bytes out.new ≡ string_bytes out.old ++ by_shown count number) }
 {
     if count == 0 {
         return Ok(());
     }
-    out.extend_from_slice(b"; ")?;
-    put_number(out, count)?;
-    out.extend_from_slice(b" by ")?;
-    put_number(out, number as u64)?;
-    Ok(())
+    write!(out, "; {count} by {number}")
 }
 
 // Appends how many were turned away by each refusal.
-fn put_refusals(out: &mut Vec<u8>, tally: Tally) -> Result<(), AllocError>
-    ensures { OnOk result (out.new.items ≡ out.old.items ++ rows_to (λ n. by_shown (slice_index tally.by n) n) 10) }
+fn put_refusals(out: &mut String, tally: &Tally) -> Result<(), AllocError>
+    ensures { OnOk result (string_bytes out.new ≡ string_bytes out.old ++ rows_to (λ n. by_shown (slice_index tally.now.by n) n) 10) }
 {
-    for number in 0..REFUSALS {
-        put_by(out, tally.by[number], number)?;
+    for (number, count) in tally.by.iter().enumerate() {
+        put_by(out, *count, number)?;
     }
     Ok(())
 }
 
 /// Appends the line that says how many calls were taken and how many turned away, by refusal.
-pub fn put_tally(out: &mut Vec<u8>, tally: Tally) -> Result<(), AllocError>
-    ensures { OnOk result (out.new.items ≡ out.old.items ++ tally_line tally) }
+#[tactic(auto, unfolding(crate::specs::Report::tally_line))]
+pub fn put_tally(out: &mut String, tally: &Tally) -> Result<(), AllocError>
+    ensures { OnOk result (string_bytes out.new ≡ string_bytes out.old ++ tally_line tally.now) }
 {
-    out.extend_from_slice(b"calls: ")?;
-    put_number(out, tally.taken)?;
-    out.extend_from_slice(b" taken, ")?;
-    put_number(out, tally.turned)?;
-    out.extend_from_slice(b" turned away")?;
+    write!(
+        out,
+        "calls: {} taken, {} turned away",
+        tally.taken, tally.turned
+    )?;
     put_refusals(out, tally)?;
-    out.extend_from_slice(b"\n")?;
-    Ok(())
+    writeln!(out)
 }

@@ -2,6 +2,7 @@
 
 #![tactic(auto)]
 
+mod account;
 mod accounts;
 mod calls;
 mod columns;

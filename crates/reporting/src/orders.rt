@@ -1,65 +1,49 @@
 //! The table of orders.
 
-ghost use Rattle.std.specs.Prelude.{◌≡◌, ◌++◌, OnOk};
+ghost use Rattle.std.specs.Prelude.{◌≡◌, ◌++◌, OnOk, string_bytes};
+ghost use Rattle.reporting.specs.Columns.{aligned};
 ghost use Rattle.reporting.specs.Shown.{order_shown, orders_seen};
 ghost use Rattle.reporting.specs.Tables.{kind, order_row};
 ghost use Rattle.session.specs.Means.{order_of};
 
-use crate::columns::{Cell, put_aligned, put_cell, put_cells};
-use layout::{Counter, Limits};
+use crate::columns::Cell;
+use layout::Counter;
+use memory::View;
 use records::Order;
-use std::alloc::{AllocError, Global};
+use std::alloc::AllocError;
 
-fn kind(order: Order) -> &'static [u8]
-    ensures { result.now ≡ kind (order_of order) }
+// What an order is, in its column.
+#[tactic(auto, unfolding(crate::specs::Columns::aligned))]
+fn kind(order: Order) -> &'static str
+    ensures { result.now ≡ aligned 6 (kind (order_of order)) }
 {
-    if order.sells { b"sells" } else { b"buys" }
+    if order.sells { "  sells" } else { "   buys" }
 }
 
-fn put_row(heap: Global, out: &mut Vec<u8>, number: u32, order: Order) -> Result<(), AllocError>
-    ensures { OnOk result (out.new.items ≡ out.old.items ++ order_row number (order_of order)) }
+#[tactic(auto, unfolding(crate::specs::Tables::order_row))]
+fn put_row(out: &mut String, number: u32, order: Order) -> Result<(), AllocError>
+    ensures { OnOk result (string_bytes out.new ≡ string_bytes out.old ++ order_row number (order_of order)) }
 {
-    let row = [
-        Cell {
-            width: 6,
-            number: order.item as u64,
-        },
-        Cell {
-            width: 8,
-            number: order.pieces as u64,
-        },
-        Cell {
-            width: 8,
-            number: order.price as u64,
-        },
-        Cell {
-            width: 8,
-            number: order.moved as u64,
-        },
-        Cell {
-            width: 8,
-            number: order.billed as u64,
-        },
-    ];
-    put_cell(heap, out, 6, number as u64)?;
-    put_aligned(out, 6, kind(order))?;
-    put_cells(heap, out, &row)?;
-    out.extend_from_slice(b"\n")?;
-    Ok(())
+    writeln!(
+        out,
+        "{}{}{}{}{}{}{}",
+        Cell(6, u64::from(number)),
+        kind(order),
+        Cell(6, u64::from(order.item)),
+        Cell(8, u64::from(order.pieces)),
+        Cell(8, u64::from(order.price)),
+        Cell(8, u64::from(order.moved)),
+        Cell(8, u64::from(order.billed))
+    )
 }
 
 /// Appends the table of orders: all of them.
-pub fn put_orders(
-    heap: Global,
-    out: &mut Vec<u8>,
-    narrow: &[u32],
-    limits: Limits,
-) -> Result<(), AllocError>
-    ensures { OnOk result (out.new.items ≡ out.old.items ++ orders_seen limits narrow.now) }
+pub fn put_orders(out: &mut String, view: View<'_>) -> Result<(), AllocError>
+    ensures { OnOk result (string_bytes out.new ≡ string_bytes out.old ++ orders_seen view.entry.limits view.entry.narrow.now) }
 {
-    out.extend_from_slice(b"orders\n number   kind   item   pieces    price    moved   billed\n")?;
-    for number in 0..memory::count(narrow, Counter::Orders) {
-        put_row(heap, out, number, memory::order_at(narrow, limits, number))?;
+    out.push_str("orders\n number   kind   item   pieces    price    moved   billed\n")?;
+    for number in 0..view.count(Counter::Orders) {
+        put_row(out, number, view.order(number))?;
     }
     Ok(())
 }

@@ -1,77 +1,49 @@
 //! The table of stock.
 
-ghost use Rattle.std.specs.Prelude.{◌≡◌, ◌++◌, OnOk};
-ghost use Rattle.records.specs.State.{state};
+ghost use Rattle.std.specs.Prelude.{◌≡◌, ◌++◌, OnOk, string_bytes};
+ghost use Rattle.memory.specs.Lent.{seen};
 ghost use Rattle.reporting.specs.Shown.{stock_shown, stock_seen};
 ghost use Rattle.reporting.specs.Tables.{stock_row};
 
-use crate::columns::{Cell, put_cells};
-use layout::Limits;
-use std::alloc::{AllocError, Global};
+use crate::columns::Cell;
+use memory::View;
+use std::alloc::AllocError;
 
 // Appends the row of an item that has pieces.
-fn put_row(
-    heap: Global,
-    out: &mut Vec<u8>,
-    item: u32,
-    pieces: u64,
-    worth: u64,
-) -> Result<(), AllocError>
-    ensures { OnOk result (out.new.items ≡ out.old.items ++ stock_row item pieces worth) }
+#[tactic(auto, unfolding(crate::specs::Tables::stock_row))]
+fn put_row(out: &mut String, item: u32, pieces: u64, worth: u64) -> Result<(), AllocError>
+    ensures { OnOk result (string_bytes out.new ≡ string_bytes out.old ++ stock_row item pieces worth) }
 {
     if pieces == 0 {
         return Ok(());
     }
-    let row = [
-        Cell {
-            width: 6,
-            number: item as u64,
-        },
-        Cell {
-            width: 15,
-            number: pieces,
-        },
-        Cell {
-            width: 15,
-            number: worth,
-        },
-    ];
-    put_cells(heap, out, &row)?;
-    out.extend_from_slice(b"\n")?;
-    Ok(())
+    let item = u64::from(item);
+    writeln!(
+        out,
+        "{}{}{}",
+        Cell(6, item),
+        Cell(15, pieces),
+        Cell(15, worth)
+    )
 }
 
 // Appends what is on hand of an item.
-fn put_item(
-    heap: Global,
-    out: &mut Vec<u8>,
-    wide: &[u64],
-    narrow: &[u32],
-    limits: Limits,
-    item: u32,
-) -> Result<(), AllocError>
-    ensures { OnOk result (out.new.items ≡ out.old.items ++ stock_shown limits (state wide.now narrow.now) item) }
+fn put_item(out: &mut String, view: View<'_>, item: u32) -> Result<(), AllocError>
+    ensures { OnOk result (string_bytes out.new ≡ string_bytes out.old ++ stock_shown view.entry.limits (seen view.entry) item) }
 {
-    let Ok((pieces, worth)) = rules::stock_of(wide, narrow, limits, item as u64) else {
+    let Ok((pieces, worth)) = rules::stock_of(view, u64::from(item)) else {
         return Ok(());
     };
-    put_row(heap, out, item, pieces, worth)?;
-    Ok(())
+    put_row(out, item, pieces, worth)
 }
 
 /// Appends the table of stock: each item that has pieces.
-pub fn put_stock(
-    heap: Global,
-    out: &mut Vec<u8>,
-    wide: &[u64],
-    narrow: &[u32],
-    limits: Limits,
-) -> Result<(), AllocError>
-    ensures { OnOk result (out.new.items ≡ out.old.items ++ stock_seen limits (state wide.now narrow.now)) }
+pub fn put_stock(out: &mut String, view: View<'_>) -> Result<(), AllocError>
+    ensures { OnOk result (string_bytes out.new ≡ string_bytes out.old ++ stock_seen view.entry.limits (seen view.entry)) }
 {
-    out.extend_from_slice(b"stock\n   item          pieces            cost\n")?;
-    for item in 0..limits.items {
-        put_item(heap, out, wide, narrow, limits, item)?;
+    out.push_str("stock\n   item          pieces            cost\n")?;
+    for item in 0..view.limits.items {
+        put_item(out, view, item)?;
     }
     Ok(())
 }

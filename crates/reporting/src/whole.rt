@@ -1,8 +1,8 @@
 //! A whole report, from a text of calls.
 
-ghost use Rattle.std.specs.Prelude.{◌≡◌, true, ◌++◌, codes, MatchResult, OnOk};
+ghost use Rattle.std.specs.Prelude.{◌≡◌, true, ◌++◌, codes, MatchResult, OnOk, string_bytes};
 ghost use Rattle.layout.specs.Layout.{is_good};
-ghost use Rattle.records.specs.State.{state};
+ghost use Rattle.memory.specs.Lent.{seen};
 ghost use Rattle.reporting.specs.Report.{reported};
 ghost use Rattle.reporting.specs.Shown.{tables_seen};
 ghost use Rattle.text.specs.Run.{failure};
@@ -12,26 +12,21 @@ use crate::calls::put_tally;
 use crate::orders::put_orders;
 use crate::stock::put_stock;
 use layout::Limits;
+use memory::View;
 use std::alloc::{AllocError, Global};
 use text::{Books, RunError};
 
 // Appends the tables, with an empty line behind each.
-fn put_tables(
-    heap: Global,
-    out: &mut Vec<u8>,
-    wide: &[u64],
-    narrow: &[u32],
-    limits: Limits,
-) -> Result<(), AllocError>
-    ensures { OnOk result (out.new.items ≡ out.old.items ++ tables_seen limits (state wide.now narrow.now)) }
+#[tactic(auto, unfolding(crate::specs::Shown::tables_seen))]
+fn put_tables(out: &mut String, view: View<'_>) -> Result<(), AllocError>
+    ensures { OnOk result (string_bytes out.new ≡ string_bytes out.old ++ tables_seen view.entry.limits (seen view.entry)) }
 {
-    put_stock(heap, out, wide, narrow, limits)?;
-    out.extend_from_slice(b"\n")?;
-    put_accounts(heap, out, wide, narrow, limits)?;
-    out.extend_from_slice(b"\n")?;
-    put_orders(heap, out, narrow, limits)?;
-    out.extend_from_slice(b"\n")?;
-    Ok(())
+    put_stock(out, view)?;
+    writeln!(out)?;
+    put_accounts(out, view)?;
+    writeln!(out)?;
+    put_orders(out, view)?;
+    writeln!(out)
 }
 
 /// What is reported for a text of calls: stock, accounts and orders as new books of these limits have them after the last call, and how many calls
@@ -42,8 +37,8 @@ pub fn report(heap: Global, limits: Limits, text: &[u8]) -> Result<Vec<u8>, RunE
     let mut books = Books::open(heap, limits)?;
     let mut answers = Vec::new(heap);
     books.answer(text, &mut answers)?;
-    let mut out = Vec::new(heap);
-    put_tables(heap, &mut out, books.wide(), books.narrow(), limits)?;
-    put_tally(&mut out, books.tally())?;
-    Ok(out)
+    let mut out = String::new(heap);
+    put_tables(&mut out, books.view())?;
+    put_tally(&mut out, &books.tally())?;
+    Ok(out.into_bytes())
 }

@@ -20,10 +20,13 @@ refuse n p s = outcome (refused n p) s
 abbrev pub refusing : Refused → Answer
 refusing r = refused (refusal_number r.by) r.place
 
+-- what is told of a value where a call is taken, or why it is turned away
+abbrev pub told_by : {A : Type 0} → (A → Answer) → Result A Refused → Answer
+told_by told (Ok x) = told x
+told_by told (Err r) = refusing r
+
 abbrev pub numbered : Result ℕ Refused → Answer
-numbered (Ok n) = number n
-numbered (Err r) = refusing r
+numbered = told_by number
 
 abbrev pub paired : Result (ℕ × ℕ) Refused → Answer
-paired (Ok p) = two p.0 p.1
-paired (Err r) = refusing r
+paired = told_by (λ p. two p.0 p.1)

@@ -1,14 +1,18 @@
 //! The totals in the head of memory.
 
 ghost use Rattle.std.specs.Prelude.{◌≡◌};
+ghost use Rattle.memory.specs.Lent.{WideAlone};
 ghost use Rattle.rules.specs.Totals.{raised};
 
 use layout::Total;
+use memory::Memory;
 
 /// Adds to a total.
-pub fn raise(wide: &mut [u64], which: Total, by: u64)
-    ensures { wide.new ≡ raised which by wide.old }
+#[tactic(auto, unfolding(crate::specs::Totals::raised))]
+pub fn raise(memory: &mut Memory<'_>, which: Total, by: u64)
+    ensures wide { memory.new.wide.now ≡ raised which by memory.old.wide.now }
+    ensures alone { WideAlone memory.old memory.new }
 {
-    let total = memory::total(wide, which);
-    memory::put_total(wide, which, total.saturating_add(by));
+    let total = memory.view().total(which);
+    memory.put_total(which, total.saturating_add(by));
 }

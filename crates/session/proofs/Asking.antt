@@ -26,7 +26,7 @@ use Rattle.links.proofs.View.{end_is}
 use Rattle.memory.specs.Books.{count_of, order_record, lot_record, entry_record}
 use Rattle.questions.specs.Listing.{lot_of, lots_met, lots_step}
 use Rattle.questions.specs.Sums.{stock_of, sides_of, stock_step, sides_step, no_stock, no_balance}
-use Rattle.questions.specs.Walk.{put_all}
+use Rattle.std.specs.List.{fold}
 use Rattle.questions.proofs.Along.{walked_row}
 use Rattle.records.specs.Kinds.{order_kind}
 use Rattle.records.specs.State.{State}
@@ -186,7 +186,7 @@ module _ (l : Limits) (s : State) (f : Firm) (good : Good (limits_of l)) (cans :
         let lefts : left_side (map entry_of m.all_entries) a ≡ left_side f.entries a = ap (λ (es : List ledger.Entry). left_side es a) h.entries in
         let rights : right_side (map entry_of m.all_entries) a ≡ right_side f.entries a = ap (λ (es : List ledger.Entry). right_side es a) h.entries in
         walked_row (sides_step (limits_of l) s) (entry_rows (limits_of l)) s.narrow h.stands.entries.places a no_balance (entry_rows_placed (limits_of l) good).sound h.stands.entries.linked.held (omega arith)
-        ∙ ap (λ (cs : List ℕ). put_all (sides_step (limits_of l) s) no_balance cs) (h.stands.entries.of_account a (omega arith))
+        ∙ ap (λ (cs : List ℕ). fold (sides_step (limits_of l) s) no_balance cs) (h.stands.entries.of_account a (omega arith))
         ∙ sides_along (limits_of l) s a m.all_entries 0 0 0 (λ j lj. ap (λ (n : ℕ). entry_record (limits_of l) n s) (omega arith) ∙ h.stands.entries.each j lj)
         (omega (arith, lefts, left_most f.entries a)) (omega (arith, rights, right_most f.entries a))
         ∙ ap₂ (λ (x y : ℕ). record { left = x; right = y }) (omega (arith, lefts)) (omega (arith, rights))

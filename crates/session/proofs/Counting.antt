@@ -12,7 +12,7 @@ use Rattle.layout.specs.declared.limits.Limits.{Limits}
 use Rattle.memory.specs.Books.{lot_record, entry_record}
 use Rattle.questions.specs.Listing.{lot_of, lots_step}
 use Rattle.questions.specs.Sums.{plus, stock_step, sides_step}
-use Rattle.questions.specs.Walk.{put_all}
+use Rattle.std.specs.List.{fold}
 use Rattle.records.specs.Kind.{word, lies}
 use Rattle.records.specs.Kinds.{lot_kind, entry_kind}
 use Rattle.records.specs.State.{State}
@@ -51,12 +51,12 @@ worth_most (x ∷ ls) i = pick-both (eqb x.item i) x.cost 0 (λ (n : ℕ). n + w
 abbrev met : Limits → State → List ℕ → List stock.Lot
 met l s cs = map lot_of (map (λ c. lot_record l c s) cs)
 
-pub lots_along : (l : Limits) (s : State) (cs : List ℕ) (xs : List stock.Lot) → put_all (lots_step l s) xs cs ≡ xs ++ map lot_of (map (λ c. lot_record l c s) cs)
+pub lots_along : (l : Limits) (s : State) (cs : List ℕ) (xs : List stock.Lot) → fold (lots_step l s) xs cs ≡ xs ++ map lot_of (map (λ c. lot_record l c s) cs)
 lots_along l s [] xs = sym (append-nil xs)
 lots_along l s (c ∷ cs) xs = lots_along l s cs (xs ++ (lot_of (lot_record l c s) ∷ [])) ∙ append_assoc xs (lot_of (lot_record l c s) ∷ []) (map lot_of (map (λ d. lot_record l d s) cs))
 
 pub stock_along : (l : Limits) (s : State) (cs : List ℕ) (a : Stock) → a.pieces + all_pieces (map lot_of (map (λ c. lot_record l c s) cs)) < 2 ^ 64 → a.worth + all_worth (map lot_of (map (λ c. lot_record l c s) cs)) < 2 ^ 64 →
-    put_all (stock_step l s) a cs ≡ record { pieces = a.pieces + all_pieces (map lot_of (map (λ c. lot_record l c s) cs)); worth = a.worth + all_worth (map lot_of (map (λ c. lot_record l c s) cs)) }
+    fold (stock_step l s) a cs ≡ record { pieces = a.pieces + all_pieces (map lot_of (map (λ c. lot_record l c s) cs)); worth = a.worth + all_worth (map lot_of (map (λ c. lot_record l c s) cs)) }
 unfolding all_pieces all_worth
 stock_along l s [] a hp hw = ap₂ (λ (p w : ℕ). record { pieces = p; worth = w }) (omega arith) (omega arith)
 stock_along l s (c ∷ cs) a hp hw =
@@ -90,13 +90,13 @@ right_most (e ∷ es) a = pick-both (eqb e.on_right a) e.amount 0 (λ (n : ℕ).
 abbrev balance : ℕ → ℕ → Balance
 balance x y = record { left = x; right = y }
 
-put_append : {A : Type 0} (g : A → ℕ → A) (a : A) (xs ys : List ℕ) → put_all g a (xs ++ ys) ≡ put_all g (put_all g a xs) ys
+put_append : {A : Type 0} (g : A → ℕ → A) (a : A) (xs ys : List ℕ) → fold g a (xs ++ ys) ≡ fold g (fold g a xs) ys
 put_append g a [] ys = refl
 put_append g a (x ∷ xs) ys = put_append g (g a x) xs ys
 
 -- the cells of one entry, the entry k, where account a is on its left or its right
 module _ (l : Limits) (s : State) (a k : ℕ) (e : Entry) (is : entry_record l k s ≡ e) where
-  on_left : (b : Bool) (x y : ℕ) → x + pick b e.amount 0 < 2 ^ 64 → put_all (sides_step l s) (balance x y) (only_if b (2 * k)) ≡ balance (x + pick b e.amount 0) y
+  on_left : (b : Bool) (x y : ℕ) → x + pick b e.amount 0 < 2 ^ 64 → fold (sides_step l s) (balance x y) (only_if b (2 * k)) ≡ balance (x + pick b e.amount 0) y
   on_left true x y lt =
       let even : 2 * k % 2 ≡ 0 = omega arith in
       let half : 2 * k / 2 ≡ k = omega arith in
@@ -104,7 +104,7 @@ module _ (l : Limits) (s : State) (a k : ℕ) (e : Entry) (is : entry_record l k
       ∙ ap (λ (n : ℕ). balance n y) (omega arith)
   on_left false x y lt = ap (λ (n : ℕ). balance n y) (omega arith)
 
-  on_right : (b : Bool) (x y : ℕ) → y + pick b e.amount 0 < 2 ^ 64 → put_all (sides_step l s) (balance x y) (only_if b (2 * k + 1)) ≡ balance x (y + pick b e.amount 0)
+  on_right : (b : Bool) (x y : ℕ) → y + pick b e.amount 0 < 2 ^ 64 → fold (sides_step l s) (balance x y) (only_if b (2 * k + 1)) ≡ balance x (y + pick b e.amount 0)
   on_right true x y lt =
       let odd : (2 * k + 1) % 2 ≡ 1 = omega arith in
       let half : (2 * k + 1) / 2 ≡ k = omega arith in
@@ -114,7 +114,7 @@ module _ (l : Limits) (s : State) (a k : ℕ) (e : Entry) (is : entry_record l k
 
 pub sides_along : (l : Limits) (s : State) (a : ℕ) (es : List Entry) (k x y : ℕ) → ((j : ℕ) → j < length es → entry_record l (k + j) s ≡ get_or es j entry_kind.nothing) →
     x + left_side (map entry_of es) a < 2 ^ 64 → y + right_side (map entry_of es) a < 2 ^ 64 →
-    put_all (sides_step l s) (balance x y) (cells a k es) ≡ balance (x + left_side (map entry_of es) a) (y + right_side (map entry_of es) a)
+    fold (sides_step l s) (balance x y) (cells a k es) ≡ balance (x + left_side (map entry_of es) a) (y + right_side (map entry_of es) a)
 unfolding left_side right_side
 sides_along l s a [] k x y each hl hr = ap₂ balance (omega arith) (omega arith)
 sides_along l s a (e ∷ es) k x y each hl hr =
@@ -122,9 +122,9 @@ sides_along l s a (e ∷ es) k x y each hl hr =
     let p : Bool = eqb e.left a in
     let q : Bool = eqb e.right a in
     put_append (sides_step l s) (balance x y) (only_if p (2 * k) ++ only_if q (2 * k + 1)) (cells a (k + 1) es)
-    ∙ ap (λ (b : Balance). put_all (sides_step l s) b (cells a (k + 1) es))
+    ∙ ap (λ (b : Balance). fold (sides_step l s) b (cells a (k + 1) es))
     (put_append (sides_step l s) (balance x y) (only_if p (2 * k)) (only_if q (2 * k + 1))
-    ∙ ap (λ (b : Balance). put_all (sides_step l s) b (only_if q (2 * k + 1))) (on_left l s a k e is p x y (omega arith))
+    ∙ ap (λ (b : Balance). fold (sides_step l s) b (only_if q (2 * k + 1))) (on_left l s a k e is p x y (omega arith))
     ∙ on_right l s a k e is q (x + pick p e.amount 0) y (omega arith))
     ∙ sides_along l s a es (k + 1) (x + pick p e.amount 0) (y + pick q e.amount 0)
     (λ j lt. ap (λ (n : ℕ). entry_record l n s) (omega arith) ∙ each (suc j) (omega arith)) (omega arith) (omega arith)

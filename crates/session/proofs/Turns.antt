@@ -1,24 +1,22 @@
 -- A run: what was written so far, and what the rest of the rows will be answered. Assumes nothing.
-use Rattle.std.proofs.Common.{◌≡◌, ℕ, ◌≤◌, ltb, List, [], ◌∷◌, ◌++◌, length, sym, refl, ap, ◌∙◌, subst, ap₂, append_assoc, append-nil, arith}
+use Rattle.std.proofs.Common.{◌≡◌, ℕ, ◌≤◌, List, [], ◌∷◌, ◌++◌, length, sym, refl, ap, ◌∙◌, subst, ap₂, append_assoc, append-nil}
 use Rattle.std.proofs.lemmas.List.{take_at}
-use Rattle.std.proofs.lemmas.Bool.{cond-true, cond-false, le-ltb}
 use Rattle.fields.specs.Written.{over}
 use Rattle.firm.specs.Firm.{Firm, new_firm}
 use Rattle.firm.specs.Answers.{answers, answer, after, ran as runs}
 use Rattle.firm.specs.Statements.{Reached}
-use Rattle.layout.specs.Layout.{Good, is_good, wide_need, narrow_need, answer_need}
+use Rattle.layout.specs.Layout.{Good, answer_need}
 use Rattle.layout.specs.declared.limits.Limits.{Limits}
 use Rattle.memory.specs.Books.{limits_in}
-use Rattle.memory.specs.Opened.{Opened, opened, opening, opening_of}
-use Rattle.memory.specs.declared.opening.Opening.{Opening}
 use Rattle.records.specs.State.{State}
 use Rattle.wire.specs.Answers.{bytes_of_answer}
 use Rattle.wire.specs.Calls.{call_of}
 use Rattle.session.specs.Calling.{called}
+use Rattle.session.specs.Held.{words_of, Fresh}
+use Rattle.session.specs.declared.held.Held.{Held}
 use Rattle.session.specs.Means.{Means}
 use Rattle.session.specs.Running.{rows_of, framed, books_limits, answered_rows, ran, RowDone, row_done, answer_row, row_answered}
-use Rattle.session.proofs.Called.{Answered, good_tested, called_means}
-use Rattle.session.proofs.Framing.{rows_none}
+use Rattle.session.proofs.Called.{Answered, called_means}
 use Rattle.session.proofs.Keeping.{opened_means, reached_after}
 
 -- memory means a firm, and what is written, with what the rest is answered from there, is the whole
@@ -28,22 +26,15 @@ pub record Going (l : Limits) (calls : List ℕ) (s : State) (rest written : Lis
   pub reached : Reached (books_limits l) firm
   pub whole : written ++ answered_rows l firm (rows_of rest) ≡ ran l calls
 
--- memory of just the size that good limits ask for, opened
-module _ (l : Limits) (s t : State) (o : Opening) (good : Good l) (w : length s.wide ≡ wide_need l) (n : length s.narrow ≡ narrow_need l) (e : opening_of o t ≡ opening l s) where
-  opens : t ≡ opened l s
-  opens =
-      ap (λ (x : Opened). x.left) (e
-      ∙ cond-true (is_good l) _ _ (good_tested l good)
-      ∙ cond-false (ltb (length s.wide) (wide_need l)) _ _ (le-ltb (length s.wide) (wide_need l) (omega (arith, w)))
-      ∙ cond-false (ltb (length s.narrow) (narrow_need l)) _ _ (le-ltb (length s.narrow) (narrow_need l) (omega (arith, n))))
+-- memory of just the size that limits ask for, opened
+module _ (l : Limits) (h : Held) (fresh : Fresh l h) where
+  pub means_new : Means l (words_of h) new_firm
+  means_new = subst (λ (u : State). Means l u new_firm) (sym fresh.opens) (opened_means l fresh.before fresh.good fresh.wide fresh.narrow)
 
-  means_new : Means l t new_firm
-  means_new = subst (λ (u : State). Means l u new_firm) (sym opens) (opened_means l s good w n)
+  pub fresh_limits : l ≡ limits_in (words_of h).narrow
+  fresh_limits = sym means_new.stands.frame.limits
 
-  pub opens_limits : l ≡ limits_in t.narrow
-  opens_limits = sym means_new.stands.frame.limits
-
-  pub going_begins : (calls : List ℕ) → Going l calls t calls []
+  pub going_begins : (calls : List ℕ) → Going l calls (words_of h) calls []
   unfolding runs
   going_begins calls = record { firm = new_firm; means = means_new; reached = ([], refl); whole = refl }
 
@@ -77,8 +68,7 @@ module _ (l : Limits) (calls : List ℕ) (s : State) (rest written row more old 
             ∙ g.whole;
       }
 
--- nothing is left
-pub going_ends : (l : Limits) (calls : List ℕ) (s : State) (rest written : List ℕ) → Going l calls s rest written → length rest ≤ 0 → written ≡ ran l calls
+-- no row is left
+pub going_ends : (l : Limits) (calls : List ℕ) (s : State) (rest written : List ℕ) → Going l calls s rest written → rows_of rest ≡ [] → written ≡ ran l calls
 unfolding answered_rows answers
-going_ends l calls s [] written g le = sym (append-nil written) ∙ ap (λ (rows : List (List ℕ)). written ++ answered_rows l g.firm rows) (sym rows_none) ∙ g.whole
-going_ends l calls s (b ∷ bs) written g le = absurd (omega arith)
+going_ends l calls s rest written g none = sym (append-nil written) ∙ ap (λ (rows : List (List ℕ)). written ++ answered_rows l g.firm rows) (sym none) ∙ g.whole

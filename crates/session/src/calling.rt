@@ -2,69 +2,30 @@
 
 ghost use Rattle.std.specs.Prelude.{◌≡◌, ◌≤◌, T, length, if◌then◌else◌};
 ghost use Rattle.wire.specs.Calls.{call_of};
-ghost use Rattle.rules.specs.Outcome.{numbered, paired, refusing};
-ghost use Rattle.session.specs.Calling.{Said, taken, done, lots_told, holds, called_of, called, Fits};
+ghost use Rattle.rules.specs.Outcome.{refusing};
+ghost use Rattle.session.specs.Calling.{Said, done, lots_told, holds, called_of, called, Fits};
 ghost use Rattle.wire.specs.Said.{said as meant, are_parts};
 ghost use Rattle.wire.specs.Told.{refusal_number};
 ghost use Rattle.firm.specs.Calls.{refused};
 ghost use Rattle.layout.specs.Layout.{answer_need};
+ghost use Rattle.memory.specs.Lent.{seen, words, Same};
 ghost use Rattle.records.specs.State.{state};
 
+use crate::short::say;
 use layout::Limits;
+use memory::{Memory, View};
 use rules::Refused;
 use wire::{Call, Refusal};
 
-// How many bytes an answer took that has room.
-fn taken(length: Option<usize>) -> usize
-    ensures { result ≡ taken length }
+// That there is room for an answer is asked of three functions here: it ties the limits to other bytes, so that a struct would have to lend both.
+fn say_lots(view: View<'_>, item: u64, out: &mut [u8]) -> usize
+    requires { answer_need view.limits ≤ length out.old }
+    ensures { Said (lots_told view.entry.limits item (seen view.entry)) result out.old out.new }
 {
-    match length {
-        Some(n) => n,
-        None => 0,
-    }
-}
-
-fn say_refused(refused: Refused, out: &mut [u8]) -> usize
-    requires { 17 ≤ length out.old }
-    ensures { Said (refusing refused) result out.old out.new }
-{
-    taken(wire::write_refusal(out, refused.by, refused.place))
-}
-
-fn say_number(res: Result<u64, Refused>, out: &mut [u8]) -> usize
-    requires { 17 ≤ length out.old }
-    ensures { Said (numbered res) result out.old out.new }
-{
-    match res {
-        Ok(n) => taken(wire::write_number(out, n)),
-        Err(refused) => say_refused(refused, out),
-    }
-}
-
-fn say_two(res: Result<(u64, u64), Refused>, out: &mut [u8]) -> usize
-    requires { 17 ≤ length out.old }
-    ensures { Said (paired res) result out.old out.new }
-{
-    match res {
-        Ok((a, b)) => taken(wire::write_two(out, a, b)),
-        Err(refused) => say_refused(refused, out),
-    }
-}
-
-fn say_lots(wide: &[u64], narrow: &[u32], limits: Limits, item: u64, out: &mut [u8]) -> usize
-    requires { answer_need limits ≤ length out.old }
-    ensures { Said (lots_told limits item (state wide.now narrow.now)) result out.old out.new }
-{
-    let Some(item) = rules::known_item(limits, item) else {
-        return say_refused(first(Refusal::BadField), out);
+    let Some(item) = rules::known_item(view.limits, item) else {
+        return say(Refused::first(Refusal::BadField), out);
     };
-    taken(questions::write_lots(wide, narrow, limits, item, out))
-}
-
-fn first(by: Refusal) -> Refused
-    ensures { refusing result ≡ refused (refusal_number by) 0 }
-{
-    Refused { by, place: 0 }
+    questions::write_lots(view, item, out).unwrap_or(0)
 }
 
 // Why a recipe is turned away: it is not done yet, or the bytes of its parts are no parts.
@@ -78,35 +39,31 @@ fn recipe_refusal(parts: &[u8]) -> Refusal
     }
 }
 
-fn say_unreadable(place: usize, out: &mut [u8]) -> usize
-    requires { 17 ≤ length out.old }
-    ensures { Said (refused 1 place) result out.old out.new }
+// Bytes that are no call, from this place on.
+fn unreadable(place: usize) -> Refused
+    ensures { refusing result ≡ refused 1 place }
 {
-    let refused = Refused {
+    Refused {
         by: Refusal::Unreadable,
         place: place as u64,
-    };
-    say_refused(refused, out)
+    }
 }
 
 // Does a call, or turns it away, and writes its answer.
-fn answer(wide: &mut [u64], narrow: &mut [u32], limits: Limits, call: Call, out: &mut [u8]) -> usize
-    requires { answer_need limits ≤ length out.old }
-    ensures memory { state wide.new narrow.new ≡ (done limits (meant call.entry) (state wide.old narrow.old)).left }
-    ensures bytes { Said (done limits (meant call.entry) (state wide.old narrow.old)).answer result out.old out.new }
+fn answer(memory: &mut Memory<'_>, call: Call<'_>, out: &mut [u8]) -> usize
+    requires { answer_need memory.old.limits ≤ length out.old }
+    ensures memory { words memory.new ≡ (done memory.old.limits (meant call.entry) (words memory.old)).left }
+    ensures same { Same memory.old memory.new }
+    ensures bytes { Said (done memory.old.limits (meant call.entry) (words memory.old)).answer result out.old out.new }
 {
     match call {
-        Call::Buys(item, pieces, price) => {
-            say_number(rules::buys(wide, narrow, limits, item, pieces, price), out)
-        }
-        Call::Comes(order, pieces) => {
-            say_number(rules::comes(wide, narrow, limits, order, pieces), out)
-        }
-        Call::StockOf(item) => say_two(rules::stock_of(wide, narrow, limits, item), out),
-        Call::Account(account) => say_two(rules::account(wide, narrow, limits, account), out),
-        Call::Order(order) => say_two(rules::order(narrow, limits, order), out),
-        Call::LotsOf(item) => say_lots(wide, narrow, limits, item, out),
-        Call::MadeOf(_, parts) => say_refused(first(recipe_refusal(parts)), out),
+        Call::Buys(item, pieces, price) => say(rules::buys(memory, item, pieces, price), out),
+        Call::Comes(order, pieces) => say(rules::comes(memory, order, pieces), out),
+        Call::StockOf(item) => say(rules::stock_of(memory.view(), item), out),
+        Call::Account(account) => say(rules::account(memory.view(), account), out),
+        Call::Order(order) => say(rules::order(memory.view(), order), out),
+        Call::LotsOf(item) => say_lots(memory.view(), item, out),
+        Call::MadeOf(_, parts) => say(Refused::first(recipe_refusal(parts)), out),
         Call::Sells(_, _, _)
         | Call::Goes(_, _)
         | Call::BilledBy(_, _, _)
@@ -115,7 +72,20 @@ fn answer(wide: &mut [u64], narrow: &mut [u32], limits: Limits, call: Call, out:
         | Call::PaysIn(_)
         | Call::Makes(_, _)
         | Call::Counted(_, _)
-        | Call::EntriesFrom(_, _) => say_refused(first(Refusal::BadField), out),
+        | Call::EntriesFrom(_, _) => say(Refused::first(Refusal::BadField), out),
+    }
+}
+
+// Does the call that bytes are, or turns it away, and writes its answer.
+fn answer_row(memory: &mut Memory<'_>, row: &[u8], out: &mut [u8]) -> usize
+    requires { answer_need memory.old.limits ≤ length out.old }
+    ensures memory { words memory.new ≡ (done memory.old.limits (call_of row.now) (words memory.old)).left }
+    ensures same { Same memory.old memory.new }
+    ensures bytes { Said (done memory.old.limits (call_of row.now) (words memory.old)).answer result out.old out.new }
+{
+    match wire::read(row) {
+        Ok(call) => answer(memory, call, out),
+        Err(place) => say(unreadable(place), out),
     }
 }
 
@@ -145,8 +115,10 @@ pub fn call(
     if !holds(limits, wide.len(), narrow.len(), answer_bytes.len()) {
         return None;
     }
-    match wire::read(call) {
-        Ok(call) => Some(answer(wide, narrow, limits, call, answer_bytes)),
-        Err(place) => Some(say_unreadable(place, answer_bytes)),
-    }
+    let mut memory = Memory {
+        wide,
+        narrow,
+        limits,
+    };
+    Some(answer_row(&mut memory, call, answer_bytes))
 }

@@ -10,42 +10,35 @@ ghost use Rattle.wire.specs.Calls.{call_of};
 
 use crate::boundary::limits_from;
 use crate::opening::open;
-use memory::Opening;
+use memory::OpenError;
 
+// C is answered numbers: a length or 0, or one of these.
 /// What limits out of range return: -(3 * 2^32 + 1).
 const OUT_OF_RANGE: i64 = -12884901889;
 
 /// What memory that is too small returns: -(3 * 2^32).
 const TOO_SMALL: i64 = -12884901888;
 
+// Three names for C.
 /// How many 64-bit words the limits ask for.
 pub fn books_wide(limits: &[u64]) -> i64
     ensures { result ≡ asked wide_need (limits_read limits.now) }
 {
-    match limits_from(limits) {
-        Some(l) => l.wide_need() as i64,
-        None => OUT_OF_RANGE,
-    }
+    limits_from(limits).map_or(OUT_OF_RANGE, |l| l.wide_need() as i64)
 }
 
 /// How many 32-bit words the limits ask for.
 pub fn books_narrow(limits: &[u64]) -> i64
     ensures { result ≡ asked narrow_need (limits_read limits.now) }
 {
-    match limits_from(limits) {
-        Some(l) => l.narrow_need() as i64,
-        None => OUT_OF_RANGE,
-    }
+    limits_from(limits).map_or(OUT_OF_RANGE, |l| l.narrow_need() as i64)
 }
 
 /// How many bytes of answer the limits ask for.
 pub fn books_answer(limits: &[u64]) -> i64
     ensures { result ≡ asked answer_need (limits_read limits.now) }
 {
-    match limits_from(limits) {
-        Some(l) => l.answer_need() as i64,
-        None => OUT_OF_RANGE,
-    }
+    limits_from(limits).map_or(OUT_OF_RANGE, |l| l.answer_need() as i64)
 }
 
 /// Opens empty books: 0, or -(3 * 2^32 + 1) for limits out of range, or -(3 * 2^32) for memory that is too small.
@@ -54,9 +47,9 @@ pub fn books_open(wide: &mut [u64], narrow: &mut [u32], limits: &[u64]) -> i64
     ensures number { result ≡ opening_number (opened_by (limits_read limits.now) (state wide.old narrow.old)).came }
 {
     match open(wide, narrow, limits) {
-        Opening::Done => 0,
-        Opening::LimitsOutOfRange => OUT_OF_RANGE,
-        Opening::MemoryTooSmall => TOO_SMALL,
+        Ok(()) => 0,
+        Err(OpenError::LimitsOutOfRange) => OUT_OF_RANGE,
+        Err(OpenError::MemoryTooSmall) => TOO_SMALL,
     }
 }
 
@@ -66,8 +59,5 @@ pub fn books_call(wide: &mut [u64], narrow: &mut [u32], call: &[u8], answer: &mu
     ensures bytes { answer.new ≡ (called (call_of call.now) (state wide.old narrow.old) answer.old).bytes }
     ensures number { result ≡ call_number (called (call_of call.now) (state wide.old narrow.old) answer.old).came }
 {
-    match crate::calling::call(wide, narrow, call, answer) {
-        Some(length) => length as i64,
-        None => TOO_SMALL,
-    }
+    crate::calling::call(wide, narrow, call, answer).map_or(TOO_SMALL, |length| length as i64)
 }

@@ -6,15 +6,20 @@ mod boundary;
 mod calling;
 mod error;
 mod exports;
+mod held;
 mod opening;
 mod promises;
 mod rows;
 mod running;
+mod short;
+#[cfg(test)]
+mod tests;
 
 pub use boundary::limits_from;
 pub use calling::call;
 pub use error::RunError;
 pub use exports::{books_answer, books_call, books_narrow, books_open, books_wide};
+pub use held::Held;
 pub use opening::open;
 pub use promises::{answers_are_right, memory_suffices, refusals_keep};
 pub use running::run;

@@ -3,12 +3,13 @@
 ghost use Rattle.std.specs.Prelude.{◌≡◌, ◌<◌, ◌∷◌, ◌++◌, length, OnOk};
 ghost use Rattle.fields.specs.Bytes.{field_at, field_bytes};
 ghost use Rattle.session.specs.Running.{rows_of, framed};
+ghost use Rattle.std.specs.Iterator.{YieldsFirstRef, item_count};
 
 use fields::FIELD;
 use std::alloc::AllocError;
 
-/// The first row, and what comes after it; a row that ends too soon has the bytes that there are.
-pub fn first_row(bytes: &[u8]) -> (&[u8], &[u8])
+// The first row, and what comes after it; a row that ends too soon has the bytes that there are.
+fn first_row(bytes: &[u8]) -> (&[u8], &[u8])
     ensures rows { 0 < length bytes.now → rows_of bytes.now ≡ result.0.now ∷ rows_of result.1.now }
     ensures shorter { 0 < length bytes.now → length result.1.now < length bytes.now }
 {
@@ -23,6 +24,36 @@ pub fn first_row(bytes: &[u8]) -> (&[u8], &[u8])
         body.len()
     };
     (&body[0..k], &body[k..])
+}
+
+/// The rows of bytes, one after the other.
+#[derive(Drop)]
+pub struct Rows<'a>(&'a [u8]);
+
+impl<'a> Rows<'a> {
+    /// The rows of `bytes`.
+    pub fn of(bytes: &'a [u8]) -> Rows<'a>
+        ensures { result.0.now ≡ bytes.now }
+    {
+        Rows(bytes)
+    }
+}
+
+impl<'a> Iterator for Rows<'a> {
+    type Item = &'a [u8];
+
+    ghost next_gives = { YieldsFirstRef (λ s. rows_of s.0.now) };
+
+    ghost remaining = { item_count (λ s. rows_of s.0.now) };
+
+    fn next(&mut self) -> Option<&'a [u8]> {
+        if self.0.is_empty() {
+            return None;
+        }
+        let (row, rest) = first_row(self.0);
+        self.0 = rest;
+        Some(row)
+    }
 }
 
 /// Appends a row behind its length.

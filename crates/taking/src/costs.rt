@@ -1,31 +1,30 @@
 //! What pieces would cost, found by reading alone.
 
 ghost use Rattle.std.specs.Prelude.{◌≡◌};
-ghost use Rattle.records.specs.State.{state};
+ghost use Rattle.memory.specs.Lent.{seen};
 ghost use Rattle.taking.specs.Takes.{cost_of};
 
 use crate::parts::part_of;
 use crate::wants::Want;
-use layout::Limits;
+use memory::View;
 
 /// What the pieces that are wanted would cost, from the oldest lot on; where there are fewer, what those cost.
-pub fn cost_of(wide: &[u64], narrow: &[u32], limits: Limits, want: Want) -> u64
-    ensures { result ≡ cost_of limits want (state wide.now narrow.now) }
+pub fn cost_of(view: View<'_>, want: Want) -> u64
+    ensures { result ≡ cost_of view.entry.limits want (seen view.entry) }
 {
+    if want.item >= view.limits.items {
+        return 0;
+    }
+    // A loop and not a `fold`: it ends at the last lot that is asked for.
     let mut left = want.pieces;
     let mut cost: u64 = 0;
-    let mut next = store::first_lot(narrow, limits, want.item);
-    for _turn in 0..limits.lots {
+    for cell in view.limits.lot_rows().cells_of(view.narrow, want.item) {
         if left == 0 {
             return cost;
         }
-        let Some(cell) = next else {
-            return cost;
-        };
-        let part = part_of(memory::lot_at(wide, narrow, limits, cell), left);
+        let part = part_of(view.lot(cell), left);
         left -= part.pieces as u64;
         cost = cost.saturating_add(part.cost);
-        next = store::lot_after(narrow, limits, cell);
     }
     cost
 }

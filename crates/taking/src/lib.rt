@@ -16,8 +16,7 @@ pub use takes::take_all;
 pub use wants::{Taken, Want};
 
 /// What both functions mean on memory that stands for books: they cost, leave and write what taking does in the books.
-pub fn taking_stands() -> u8
+#[tactic(auto, using(crate::proofs::TakingLaws::taking_laws))]
+pub fn taking_stands()
     ensures { TakingLaws }
-{
-    0
-}
+{}

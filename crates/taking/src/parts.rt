@@ -14,6 +14,7 @@ fn share(cost: u64, pieces: u64, of: u64) -> u64
 }
 
 /// What is taken of a lot where so many pieces are wanted: the whole lot, or these with their share of its cost.
+#[tactic(auto, unfolding(crate::specs::Parts::part_of))]
 pub fn part_of(lot: Lot, wanted: u64) -> Lot
     ensures value { result ≡ part_of lot wanted }
     ensures few { result.pieces ≤ wanted }

@@ -1,23 +1,25 @@
 //! What is wanted is taken, and written as lines of an answer.
 
 ghost use Rattle.std.specs.Prelude.{◌≡◌};
+ghost use Rattle.memory.specs.Lent.{words, Same};
 ghost use Rattle.questions.specs.Listing.{lot_of};
-ghost use Rattle.records.specs.State.{state};
 ghost use Rattle.taking.specs.Takes.{take_all, tally, nothing_taken, with_part, tallied, told};
 
 use crate::oldest::take_oldest;
 use crate::wants::{Taken, Want};
-use layout::Limits;
+use memory::Memory;
 use records::Lot;
+use wire::{Line, LotLine};
 
 /// The most wants of a call: each leaves a part of one lot at most, so that an answer has room for what was taken.
 const MOST_WANTS: u32 = 256;
 
 // Writes what a lot gave behind the lines that are there.
+#[tactic(auto, unfolding(crate::specs::Takes::with_part))]
 fn put_part(answer: &mut [u8], taken: Taken, part: Lot) -> Taken
     ensures { tally answer.new result ≡ with_part (lot_of part) (tally answer.old taken) }
 {
-    let _ = wire::put_lot(answer, taken.lines as usize, questions::line(part));
+    let _ = questions::line(part).put(answer, taken.lines as usize);
     Taken {
         lines: taken.lines.saturating_add(1),
         cost: taken.cost.saturating_add(part.cost),
@@ -25,25 +27,21 @@ fn put_part(answer: &mut [u8], taken: Taken, part: Lot) -> Taken
 }
 
 // Takes what is wanted, one after the other, and writes the lines behind the head.
-fn take_each(
-    wide: &mut [u64],
-    narrow: &mut [u32],
-    limits: Limits,
-    wants: &[Want],
-    answer: &mut [u8],
-) -> Taken
-    ensures memory { state wide.new narrow.new ≡ (take_all limits wants.now (state wide.old narrow.old)).slices }
-    ensures lines { tally answer.new result ≡ tallied (take_all limits wants.now (state wide.old narrow.old)).parts (tally answer.old nothing_taken) }
+fn take_each(memory: &mut Memory<'_>, wants: &[Want], answer: &mut [u8]) -> Taken
+    ensures words { words memory.new ≡ (take_all memory.old.limits wants.now (words memory.old)).slices }
+    ensures same { Same memory.old memory.new }
+    ensures lines { tally answer.new result ≡ tallied (take_all memory.old.limits wants.now (words memory.old)).parts (tally answer.old nothing_taken) }
 {
-    let most = limits.lots.saturating_add(MOST_WANTS);
+    let most = memory.limits.lots.saturating_add(MOST_WANTS);
     let mut taken = Taken { lines: 0, cost: 0 };
     'wants: for want in wants {
         let mut left = want.pieces;
+        // A bound on turns, not an index: words that are no books might lead on and on.
         for _line in taken.lines..most {
             if left == 0 {
                 continue 'wants;
             }
-            let Some(part) = take_oldest(wide, narrow, limits, want.item, left) else {
+            let Some(part) = take_oldest(memory, want.item, left) else {
                 continue 'wants;
             };
             taken = put_part(answer, taken, part);
@@ -54,17 +52,13 @@ fn take_each(
 }
 
 /// Takes pieces of items, the oldest lots first, and writes what was taken of which lots as an answer, where it has room.
-pub fn take_all(
-    wide: &mut [u64],
-    narrow: &mut [u32],
-    limits: Limits,
-    wants: &[Want],
-    answer: &mut [u8],
-) -> Taken
-    ensures memory { state wide.new narrow.new ≡ (take_all limits wants.now (state wide.old narrow.old)).slices }
-    ensures answer { tally answer.new result ≡ told (take_all limits wants.now (state wide.old narrow.old)).parts answer.old }
+#[tactic(auto, unfolding(crate::specs::Takes::told))]
+pub fn take_all(memory: &mut Memory<'_>, wants: &[Want], answer: &mut [u8]) -> Taken
+    ensures words { words memory.new ≡ (take_all memory.old.limits wants.now (words memory.old)).slices }
+    ensures same { Same memory.old memory.new }
+    ensures answer { tally answer.new result ≡ told (take_all memory.old.limits wants.now (words memory.old)).parts answer.old }
 {
-    let taken = take_each(wide, narrow, limits, wants, answer);
-    let _ = wire::begin_lots(answer, taken.lines as u64);
+    let taken = take_each(memory, wants, answer);
+    let _ = LotLine::begin(answer, taken.lines as u64);
     taken
 }

@@ -5,10 +5,12 @@
 #[cfg(test)]
 mod tests {
     use layout::{Counter, Limits};
+    use memory::Memory;
     use records::Lot;
     use std::process::Abort;
     use std::test::Fail;
     use taking::Want;
+    use wire::{LotLine, Row};
 
     const LIMITS: Limits = Limits {
         items: 4,
@@ -27,17 +29,22 @@ mod tests {
         }
     }
 
-    fn stock(wide: &mut [u64], narrow: &mut [u32]) {
-        let _ = memory::open(wide, narrow, LIMITS);
-        let _ = store::add_lot(wide, narrow, LIMITS, lot(0, 60, 420, 1));
-        let _ = store::add_lot(wide, narrow, LIMITS, lot(3, 21, 450, 6));
-        let _ = store::add_lot(wide, narrow, LIMITS, lot(0, 10, 100, 4));
+    // Books in lent memory, with lots of two items.
+    fn stocked<'a>(wide: &'a mut [u64], narrow: &'a mut [u32]) -> Result<Memory<'a>, Fail> {
+        memory::open(wide, narrow, LIMITS)?;
+        let mut memory = Memory {
+            wide,
+            narrow,
+            limits: LIMITS,
+        };
+        store::add_lot(&mut memory, lot(0, 60, 420, 1))?;
+        store::add_lot(&mut memory, lot(3, 21, 450, 6))?;
+        store::add_lot(&mut memory, lot(0, 10, 100, 4))?;
+        Ok(memory)
     }
 
     fn check_line(rt: &impl Abort, lines: &[u8], k: usize, want: Lot) -> Result<(), Fail> {
-        let Some(line) = wire::lot(lines, k) else {
-            return Err(Fail::new("no line"));
-        };
+        let line = LotLine::nth(lines, k).ok_or("no line")?;
         assert_eq!(rt; line.item, want.item as u64);
         assert_eq!(rt; line.pieces, want.pieces as u64);
         assert_eq!(rt; line.cost, want.cost);
@@ -50,13 +57,13 @@ mod tests {
         let mut wide = [0u64; 100];
         let mut narrow = [0u32; 200];
         let mut answer = [0u8; 137];
-        stock(&mut wide, &mut narrow);
+        let mut memory = stocked(&mut wide, &mut narrow)?;
         let want = Want {
             item: 0,
             pieces: 63,
         };
-        assert_eq!(rt; taking::cost_of(&wide, &narrow, LIMITS, want), 450);
-        let taken = taking::take_all(&mut wide, &mut narrow, LIMITS, &[want], &mut answer);
+        assert_eq!(rt; taking::cost_of(memory.view(), want), 450);
+        let taken = taking::take_all(&mut memory, &[want], &mut answer);
         assert_eq!(rt; taken.lines, 2);
         assert_eq!(rt; taken.cost, 450);
         assert_eq!(rt; answer[0], 3);
@@ -64,10 +71,8 @@ mod tests {
         check_line(&rt, &answer[9..], 0, lot(0, 60, 420, 1))?;
         check_line(&rt, &answer[9..], 1, lot(0, 3, 30, 4))?;
         assert_eq!(rt; answer[73], 0);
-        assert_eq!(rt; memory::count(&narrow, Counter::Lots), 2);
-        let Some(left) = store::nth_lot(&wide, &narrow, LIMITS, 0, 0) else {
-            return Err(Fail::new("no lot"));
-        };
+        assert_eq!(rt; memory.view().count(Counter::Lots), 2);
+        let left = store::nth_lot(memory.view(), 0, 0).ok_or("no lot")?;
         assert_eq!(rt; left.pieces, 7);
         assert_eq!(rt; left.cost, 70);
         Ok(())
@@ -78,7 +83,7 @@ mod tests {
         let mut wide = [0u64; 100];
         let mut narrow = [0u32; 200];
         let mut answer = [9u8; 137];
-        stock(&mut wide, &mut narrow);
+        let mut memory = stocked(&mut wide, &mut narrow)?;
         let wants = [
             Want { item: 3, pieces: 8 },
             Want { item: 1, pieces: 5 },
@@ -87,13 +92,13 @@ mod tests {
                 pieces: 20,
             },
         ];
-        let taken = taking::take_all(&mut wide, &mut narrow, LIMITS, &wants, &mut answer);
+        let taken = taking::take_all(&mut memory, &wants, &mut answer);
         assert_eq!(rt; taken.lines, 2);
         assert_eq!(rt; taken.cost, 450);
         check_line(&rt, &answer[9..], 0, lot(3, 8, 171, 6))?;
         check_line(&rt, &answer[9..], 1, lot(3, 13, 279, 6))?;
         assert_eq!(rt; answer[73], 9);
-        assert_eq!(rt; store::first_lot(&narrow, LIMITS, 3), None);
+        assert_eq!(rt; store::first_lot(memory.view(), 3), None);
         Ok(())
     }
 }

@@ -1,5 +1,5 @@
 -- Every answer on memory of small words has numbers that its bytes can carry. Assumes nothing.
-use Rattle.std.proofs.Common.{◌≡◌, ℕ, zero, suc, ◌+◌, ◌*◌, ◌/◌, ◌%◌, ◌^◌, ◌<◌, true, cond, eqb, ltb, leb, List, [], ◌∷◌, ◌++◌, length, get_or, Some, None, Ok, Err, Option, Result, refl, arith}
+use Rattle.std.proofs.Common.{◌≡◌, ℕ, ◌+◌, ◌*◌, ◌/◌, ◌%◌, ◌^◌, ◌<◌, true, cond, eqb, ltb, leb, List, [], ◌∷◌, ◌++◌, length, get_or, Ok, Err, Result, refl, arith}
 use Rattle.std.proofs.lemmas.Bool.{cond_both, and_from, and_parts, lt-ltb}
 use Rattle.firm.specs.Stock as stock
 use Rattle.firm.specs.Calls.{Call, Answer, refused, number, two, lots, field, readable}
@@ -9,12 +9,11 @@ use Rattle.layout.specs.Layout.{Good, lot_rows, entry_rows, order_at, lot_at, wi
 use Rattle.layout.specs.declared.head.Counter.TheVariants.{Orders}
 use Rattle.layout.specs.declared.head.Total.TheVariants.{Documents}
 use Rattle.layout.specs.declared.limits.Limits.{Limits}
-use Rattle.links.specs.Area.{following_in, header_of}
-use Rattle.links.specs.declared.shape.Shape.{Shape}
 use Rattle.memory.specs.Books.{count_of, total_of, order_record, lot_record, entry_record}
 use Rattle.questions.specs.Listing.{lot_of, lots_step, lots_met}
 use Rattle.questions.specs.Sums.{stock_of, stock_step, no_stock, sides_of, sides_step, no_balance, sum}
-use Rattle.questions.specs.Walk.{walked_on}
+use Rattle.std.specs.List.{fold}
+use Rattle.links.specs.Walk.{cells_in}
 use Rattle.questions.proofs.Listed.{met_few}
 use Rattle.records.specs.Kind.{fits, lies, word}
 use Rattle.records.specs.Kinds.{lot_kind, order_kind}
@@ -45,11 +44,9 @@ two_carried : (a b : ℕ) → a < 2 ^ 64 → b < 2 ^ 64 → Carried (two a b)
 two_carried a b h k = and_from (field a) (field b) (small a h) (small b k)
 
 -- ALONG A ROW: what each step keeps holds at the end
-walk_keeps : {A : Type 0} (P : A → Type 0) (f : A → ℕ → A) → ((a : A) (c : ℕ) → P a → P (f a c)) →
-    (k : ℕ) (h : Shape) (n : List ℕ) (o : Option ℕ) (a : A) → P a → P (walked_on f k h n o a)
-walk_keeps P f step zero h n o a p = p
-walk_keeps P f step (suc k) h n None a p = p
-walk_keeps P f step (suc k) h n (Some c) a p = walk_keeps P f step k h n (following_in h n c) (f a c) (step a c p)
+walk_keeps : {A : Type 0} (P : A → Type 0) (f : A → ℕ → A) → ((a : A) (c : ℕ) → P a → P (f a c)) → (cs : List ℕ) (a : A) → P a → P (fold f a cs)
+walk_keeps P f step [] a p = p
+walk_keeps P f step (c ∷ cs) a p = walk_keeps P f step cs (f a c) (step a c p)
 
 abbrev SmallStock : Stock → Type 0
 SmallStock a = (a.pieces < 2 ^ 64) × (a.worth < 2 ^ 64)
@@ -57,7 +54,7 @@ SmallStock a = (a.pieces < 2 ^ 64) × (a.worth < 2 ^ 64)
 stock_small : (l : Limits) (i : ℕ) (s : State) → SmallStock (stock_of l i s)
 unfolding stock_of
 stock_small l i s =
-    walk_keeps SmallStock (stock_step l s) (λ a c p. (omega arith, omega arith)) (lot_rows l).cells (lot_rows l) s.narrow (following_in (lot_rows l) s.narrow (header_of (lot_rows l) i)) no_stock
+    walk_keeps SmallStock (stock_step l s) (λ a c p. (omega arith, omega arith)) (cells_in (lot_rows l) s.narrow i) no_stock
     (omega arith, omega arith)
 
 abbrev SmallSides : Balance → Type 0
@@ -69,7 +66,7 @@ sides_small l a s =
     walk_keeps SmallSides (sides_step l s)
     (λ b c p. cond_both (eqb (c % 2) 0) (record { left = sum b.left (entry_record l (c / 2) s).amount; right = b.right }) (record { left = b.left; right = sum b.right (entry_record l (c / 2) s).amount }) SmallSides
     (λ _. (omega arith, p.1)) (λ _. (p.0, omega arith)))
-    (entry_rows l).cells (entry_rows l) s.narrow (following_in (entry_rows l) s.narrow (header_of (entry_rows l) a)) no_balance (omega arith, omega arith)
+    (cells_in (entry_rows l) s.narrow a) no_balance (omega arith, omega arith)
 
 each_push : (xs : List stock.Lot) (x : stock.Lot) → each lot_fits xs ≡ true → lot_fits x ≡ true → each lot_fits (xs ++ (x ∷ [])) ≡ true
 unfolding each
@@ -114,11 +111,10 @@ module _ (l : Limits) (s : State) (z : Sized l s) where
   met_carried : (i : ℕ) → each lot_fits (lots_met l i s) ≡ true
   unfolding lots_met
   met_carried i =
-      walk_keeps (λ xs. each lot_fits xs ≡ true) (lots_step l s) (λ xs c p. each_push xs (lot_of (lot_record l c s)) p (lot_carried c)) (lot_rows l).cells (lot_rows l) s.narrow
-      (following_in (lot_rows l) s.narrow (header_of (lot_rows l) i)) [] none_carried
+      walk_keeps (λ xs. each lot_fits xs ≡ true) (lots_step l s) (λ xs c p. each_push xs (lot_of (lot_record l c s)) p (lot_carried c)) (cells_in (lot_rows l) s.narrow i) [] none_carried
 
   lots_carried : Good l → (i : ℕ) → Carried (lots (lots_met l i s))
-  lots_carried g i = and_from (field (length (lots_met l i s))) (each lot_fits (lots_met l i s)) (small _ (omega (arith, met_few l i s, g.lots))) (met_carried i)
+  lots_carried g i = and_from (field (length (lots_met l i s))) (each lot_fits (lots_met l i s)) (small _ (omega (arith, met_few l s i, g.lots))) (met_carried i)
 
   -- the calls of this stage that change something
   abbrev ToldCarried : Outcome → Type 0

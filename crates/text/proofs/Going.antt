@@ -1,23 +1,21 @@
 -- Line by line through a text. Assumes nothing.
-use Rattle.std.proofs.Common.{◌≡◌, ℕ, ◌≤◌, ltb, List, [], ◌∷◌, ◌++◌, length, sym, refl, ap, ◌∙◌, subst, append_assoc, append-nil, arith}
+use Rattle.std.proofs.Common.{◌≡◌, ℕ, List, [], ◌∷◌, ◌++◌, sym, refl, ap, ◌∙◌, subst, append_assoc, append-nil, arith}
 use mathlib.Core.List.{map-append}
-use Rattle.std.proofs.lemmas.Bool.{cond-true, cond-false, le-ltb}
+use Rattle.std.specs.List.{flat_map}
+use Rattle.std.proofs.lemmas.Grind.{flat_map-append}
 use Rattle.firm.specs.Firm.{Firm, new_firm}
 use Rattle.firm.specs.Calls.{Call, Answer, Limits}
 use Rattle.firm.specs.Answers as firm
 use Rattle.firm.specs.Answers.{after, answer, answers}
-use Rattle.layout.specs.Layout.{Good, is_good, wide_need, narrow_need, answer_need}
 use Rattle.layout.specs.declared.limits.Limits as layout
-use Rattle.memory.specs.Opened.{Opened, opened, opening, opening_of}
-use Rattle.memory.specs.declared.opening.Opening.{Opening}
 use Rattle.records.specs.State.{State}
-use Rattle.session.specs.Means.{Means}
-use Rattle.session.proofs.Called.{good_tested}
-use Rattle.session.proofs.Keeping.{opened_means}
+use Rattle.session.specs.Held.{words_of, room_of, Fresh}
+use Rattle.session.specs.declared.held.Held.{Held}
+use Rattle.session.proofs.Turns.{means_new}
 use Rattle.answer_lines.specs.Shown.{shown_line}
 use Rattle.call_lines.specs.Lines.{call_in_line}
-use Rattle.text.specs.Lines.{heard, lines_of_calls}
-use Rattle.text.specs.Run.{books_limits, calls_in, calls, printed, ran}
+use Rattle.text.specs.Lines.{heard, lines}
+use Rattle.text.specs.Run.{books_limits, calls_in, calls, printed}
 use Rattle.text.specs.Standing.{Standing, GoneOn, CallsDone}
 
 -- SOME CALLS AND THEN OTHERS
@@ -50,44 +48,27 @@ done_then cs ds s t u room out mid end p q l f h =
           ∙ ap (λ (x : List ℕ). out ++ x) (sym (printed_append (answers l f cs) (answers l (firm.ran l f cs) ds)) ∙ ap printed (sym (answers_append l f cs ds)));
     }
 
--- AFTER SOME LINES: the calls so far are done, and the rest of the text has the others
-pub record Going (text : List ℕ) (s t : State) (room : ℕ) (rest out end : List ℕ) : Type 0 where
-  pub past : List Call
-  pub done : CallsDone past s t room out end
-  pub parts : past ++ calls rest ≡ calls text
+-- AFTER SOME LINES: their calls are done, and then those of one more
+abbrev pub calls_after : List (List ℕ) → List Call
+calls_after ls = calls_in (flat_map heard ls)
 
-pub begins : (text : List ℕ) (s : State) (room : ℕ) (out : List ℕ) → Going text s s room text out out
-begins text s room out = record { past = []; done = done_none s room out; parts = refl }
+pub calls_after_more : (ls : List (List ℕ)) (line : List ℕ) → calls_after (ls ++ line ∷ []) ≡ calls_after ls ++ calls_in (heard line)
+calls_after_more ls line =
+    ap calls_in (flat_map-append heard ls (line ∷ []) ∙ ap (λ (x : List (List ℕ)). flat_map heard ls ++ x) (append-nil (heard line)))
+    ∙ map-append call_in_line (flat_map heard ls) (heard line)
 
-pub goes_on : (text : List ℕ) (s t u : State) (room : ℕ) (rest line later out mid end : List ℕ) → Going text s t room rest out mid → lines_of_calls rest ≡ heard line ++ lines_of_calls later →
-    CallsDone (calls_in (heard line)) t u room mid end → Going text s u room later out end
-goes_on text s t u room rest line later out mid end g cut d =
-    record {
-      past = g.past ++ calls_in (heard line);
-      done = done_then g.past (calls_in (heard line)) s t u room out mid end g.done d;
-      parts =
-          append_assoc g.past (calls_in (heard line)) (calls later)
-          ∙ ap (λ (cs : List Call). g.past ++ cs) (sym (map-append call_in_line (heard line) (lines_of_calls later)) ∙ ap calls_in (sym cut)) ∙ g.parts;
-    }
+pub begins : (s : State) (room : ℕ) (out : List ℕ) → CallsDone (calls_after []) s s room out out
+begins = done_none
 
-pub ends : (text : List ℕ) (s t : State) (room : ℕ) (rest out end : List ℕ) → length rest ≤ 0 → Going text s t room rest out end → CallsDone (calls text) s t room out end
-ends text s t room [] out end h g = subst (λ (cs : List Call). CallsDone cs s t room out end) (sym (append-nil g.past) ∙ g.parts) g.done
-ends text s t room (c ∷ cs) out end h g = absurd (omega arith)
+pub goes_on : (ls : List (List ℕ)) (line : List ℕ) (s t u : State) (room : ℕ) (out mid end : List ℕ) → CallsDone (calls_after ls) s t room out mid → CallsDone (calls_in (heard line)) t u room mid end →
+    CallsDone (calls_after (ls ++ line ∷ [])) s u room out end
+goes_on ls line s t u room out mid end p q =
+    subst (λ (cs : List Call). CallsDone cs s u room out end) (sym (calls_after_more ls line)) (done_then (calls_after ls) (calls_in (heard line)) s t u room out mid end p q)
 
--- OPENED MEMORY, of the size that good limits ask for, stands for new books
-pub opens : (l : layout.Limits) (s t : State) (o : Opening) (room : ℕ) → Good l → length s.wide ≡ wide_need l → length s.narrow ≡ narrow_need l → room ≡ answer_need l → opening_of o t ≡ opening l s →
-    Standing (books_limits l) new_firm t room
+pub ends : (text : List ℕ) (ls : List (List ℕ)) (s t : State) (room : ℕ) (out end : List ℕ) → ls ≡ lines text → CallsDone (calls_after ls) s t room out end → CallsDone (calls text) s t room out end
+ends text ls s t room out end all d = subst (λ (x : List (List ℕ)). CallsDone (calls_after x) s t room out end) all d
+
+-- OPENED MEMORY, of the size that limits ask for, stands for new books
+pub opens : (l : layout.Limits) (h : Held) → Fresh l h → Standing (books_limits l) new_firm (words_of h) (room_of h)
 unfolding firm.ran
-opens l s t o room good w n a e =
-    let is : t ≡ opened l s =
-    ap (λ (x : Opened). x.left) (e ∙ cond-true (is_good l) _ _ (good_tested l good)
-    ∙ cond-false (ltb (length s.wide) (wide_need l)) _ _ (le-ltb _ _ (omega arith)) ∙ cond-false (ltb (length s.narrow) (narrow_need l)) _ _ (le-ltb _ _ (omega arith))) in
-    record { good = good; cans = refl; reached = ([], refl); means = subst (λ (x : State). Means l x new_firm) (sym is) (opened_means l s good w n); enough = omega arith }
-
--- THE WHOLE: memory of the size that good limits ask for is opened, and what is written stands behind nothing
-pub whole : (l : layout.Limits) (text : List ℕ) (s t u : State) (o : Opening) (room : ℕ) (out end : List ℕ) → Good l → length s.wide ≡ wide_need l → length s.narrow ≡ narrow_need l →
-    room ≡ answer_need l → opening_of o t ≡ opening l s → out ≡ [] → CallsDone (calls text) t u room out end → end ≡ ran l text
-unfolding ran
-whole l text s t u o room out end good w n a e none d =
-    (d (books_limits l) new_firm (opens l s t o room good w n a e)).text
-    ∙ ap (λ (x : List ℕ). x ++ printed (answers (books_limits l) new_firm (calls text))) none
+opens l h fresh = record { good = fresh.good; cans = refl; reached = ([], refl); means = means_new l h fresh; enough = omega (arith, fresh.room) }

@@ -4,5 +4,4 @@ mod Sent
 mod Lined
 mod Going
 mod Noting
-mod Lending
 mod Counting

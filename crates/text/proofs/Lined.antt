@@ -1,5 +1,5 @@
 -- One line: what its call does to memory that stands for a firm, and what is written. Assumes nothing.
-use Rattle.std.proofs.Common.{◌≡◌, ℕ, ◌<◌, ◌≤◌, true, false, List, [], ◌∷◌, ◌++◌, length, take, drop, Some, None, Option, sym, ap, ◌∙◌, subst, append_assoc, append-nil, arith, length-append}
+use Rattle.std.proofs.Common.{◌≡◌, ℕ, ◌≤◌, true, false, List, [], ◌∷◌, ◌++◌, length, take, drop, Some, None, Option, sym, ap, ◌∙◌, subst, append_assoc, append-nil, arith, length-append}
 use Rattle.std.proofs.lemmas.List.{take_at}
 use Rattle.std.proofs.lemmas.Bool.{cond-true, cond-false}
 use Rattle.fields.specs.Written.{over}
@@ -49,15 +49,9 @@ module _ (row old bytes : List ℕ) (s t : State) (r : Option ℕ) (is : called_
         subst (λ (a : Answer). carries a ≡ true) (done_means l s f h.good h.cans h.reached h.means c).says
         (carried (limits_of l) s h.means.sized h.good c send.1)
 
-  -- nothing, or more than there is: not on such memory
+  -- nothing: not on such memory
   pub none_came : (out : List ℕ) → r ≡ None → CallDone row s t (length old) out out
   none_came out none l f c h send e = let z : ◌≡◌ {A = ℕ} 0 1 = cc (means l f c h send e).came in absurd (omega arith)
-
-  pub long_came : (n : ℕ) (out : List ℕ) → r ≡ Some n → length bytes < n → CallDone row s t (length old) out out
-  long_came n out some more l f c h send e =
-      let a = means l f c h send e in
-      let came : n ≡ length (bytes_of_answer (answer l f c)) = cc a.came in
-      absurd (omega (arith, over_long (bytes_of_answer (answer l f c)) old, ap length a.bytes))
 
   pub some_came : (n m : ℕ) (out end : List ℕ) → r ≡ Some n → m ≡ n → end ≡ out ++ shown_if (answer_of (take m bytes)) → CallDone row s t (length old) out end
   some_came n m out end some same wrote l f c h send e =

@@ -1,9 +1,7 @@
 -- The tally along a text: what a line does to it, and the lines together. Assumes nothing.
-use Rattle.std.proofs.Common.{◌≡◌, ℕ, ◌<◌, ◌≤◌, true, false, List, [], ◌∷◌, ◌++◌, length, take, Some, None, Option, sym, refl, ap, ◌∙◌, subst, arith}
-use mathlib.Core.List.{map-append}
+use Rattle.std.proofs.Common.{◌≡◌, ℕ, true, false, List, [], ◌∷◌, ◌++◌, length, take, Some, None, Option, sym, refl, ap, ◌∙◌, subst, arith}
 use Rattle.std.proofs.lemmas.Bool.{cond-true, cond-false}
-use Rattle.firm.specs.Firm.{Firm}
-use Rattle.firm.specs.Calls.{Call, Answer, Limits, refused, garbled}
+use Rattle.firm.specs.Calls.{Call, Answer, refused, garbled}
 use Rattle.firm.specs.Answers.{answer, answers, ran}
 use Rattle.records.specs.State.{State}
 use Rattle.session.specs.Calling.{called_of, called}
@@ -12,26 +10,20 @@ use Rattle.wire.specs.Answers.{bytes_of_answer, answer_of}
 use Rattle.wire.specs.Calls.{Sendable, bytes_of_call, call_of}
 use Rattle.wire.proofs.AnswerLaws.{answer_comes_back}
 use Rattle.call_lines.specs.Lines.{call_in_line}
-use Rattle.text.specs.Lines.{bare, quiet, heard, lines_of_calls}
+use Rattle.text.specs.Lines.{bare, quiet, heard, lines}
 use Rattle.text.specs.Noting.{CallNoted, CallsNoted}
 use Rattle.text.specs.Run.{calls_in, calls}
-use Rattle.text.specs.Standing.{Standing, CallsDone}
+use Rattle.text.specs.Standing.{CallsDone}
 use Rattle.text.specs.Tallies.{noted, noted_if, tallied}
 use Rattle.text.specs.declared.tally.Tally.{Tally}
-use Rattle.text.proofs.Going.{answers_append}
-use Rattle.text.proofs.Lined.{means, carries_it, over_long, take_over}
+use Rattle.text.proofs.Going.{answers_append, calls_after, calls_after_more}
+use Rattle.text.proofs.Lined.{means, carries_it, take_over}
 
 -- what `call` returned, on memory that stands for a firm
 module _ (row old bytes : List ℕ) (s t : State) (r : Option ℕ) (is : called_of r t bytes ≡ called (call_of row) s old) where
-  -- nothing, or more than there is: not on such memory
+  -- nothing: not on such memory
   pub none_noted : (before : Tally) → r ≡ None → CallNoted row s (length old) before before
   none_noted before none l f c h send e = let z : ◌≡◌ {A = ℕ} 0 1 = cc (means row old bytes s t r is l f c h send e).came in absurd (omega arith)
-
-  pub long_noted : (n : ℕ) (before : Tally) → r ≡ Some n → length bytes < n → CallNoted row s (length old) before before
-  long_noted n before some more l f c h send e =
-      let a = means row old bytes s t r is l f c h send e in
-      let came : n ≡ length (bytes_of_answer (answer l f c)) = cc a.came in
-      absurd (omega (arith, over_long (bytes_of_answer (answer l f c)) old, ap length a.bytes))
 
   pub some_noted : (n m : ℕ) (before after : Tally) → r ≡ Some n → m ≡ n → after ≡ noted_if (answer_of (take m bytes)) before → CallNoted row s (length old) before after
   some_noted n m before after some same counted l f c h send e =
@@ -66,34 +58,20 @@ tallied_append : (t : Tally) (xs ys : List Answer) → tallied t (xs ++ ys) ≡ 
 tallied_append t [] ys = refl
 tallied_append t (x ∷ xs) ys = tallied_append (noted t x) xs ys
 
--- AFTER SOME LINES: memory stands for a firm whose answers to the rest of the text bring the tally to what the whole text does
-pub record Onward (l : Limits) (t : State) (room : ℕ) (rest : List ℕ) (now total : Tally) : Type 0 where
-  pub firm : Firm
-  pub standing : Standing l firm t room
-  pub comes : tallied now (answers l firm (calls rest)) ≡ total
-
-abbrev pub Counting : List ℕ → State → State → ℕ → List ℕ → Tally → Tally → Type 0
-Counting text s t room rest before now = (l : Limits) (f : Firm) → Standing l f s room → Onward l t room rest now (tallied before (answers l f (calls text)))
-
-pub counting_begins : (text : List ℕ) (s : State) (room : ℕ) (before : Tally) → Counting text s s room text before before
-counting_begins text s room before l f h = record { firm = f; standing = h; comes = refl }
-
-pub counting_goes_on : (text : List ℕ) (s t u : State) (room : ℕ) (rest line later out end : List ℕ) (before now next : Tally) → Counting text s t room rest before now →
-    lines_of_calls rest ≡ heard line ++ lines_of_calls later → CallsDone (calls_in (heard line)) t u room out end → CallsNoted (calls_in (heard line)) t room now next → Counting text s u room later before next
-counting_goes_on text s t u room rest line later out end before now next k cut d n l f h =
-    let o = k l f h in
-    let cs : List Call = calls_in (heard line) in
-    let parts : cs ++ calls later ≡ calls rest = sym (map-append call_in_line (heard line) (lines_of_calls later)) ∙ ap calls_in (sym cut) in
-    record {
-      firm = ran l o.firm cs;
-      standing = (d l o.firm o.standing).standing;
-      comes =
-          ap (λ (x : Tally). tallied x (answers l (ran l o.firm cs) (calls later))) (n l o.firm o.standing)
-          ∙ sym (tallied_append now (answers l o.firm cs) (answers l (ran l o.firm cs) (calls later)))
-          ∙ ap (tallied now) (sym (answers_append l o.firm cs (calls later)) ∙ ap (answers l o.firm) parts) ∙ o.comes;
-    }
-
-pub counting_ends : (text : List ℕ) (s t : State) (room : ℕ) (rest : List ℕ) (before now : Tally) → length rest ≤ 0 → Counting text s t room rest before now → CallsNoted (calls text) s room before now
+-- AFTER SOME LINES: what they are answered is counted, and then what one more is
+pub counting_begins : (s : State) (room : ℕ) (before : Tally) → CallsNoted (calls_after []) s room before before
 unfolding answers
-counting_ends text s t room [] before now e k l f h = (k l f h).comes
-counting_ends text s t room (c ∷ cs) before now e k l f h = absurd (omega arith)
+counting_begins s room before l f h = refl
+
+pub counting_goes_on : (ls : List (List ℕ)) (line : List ℕ) (s t : State) (room : ℕ) (out mid : List ℕ) (before now next : Tally) → CallsDone (calls_after ls) s t room out mid →
+    CallsNoted (calls_after ls) s room before now → CallsNoted (calls_in (heard line)) t room now next → CallsNoted (calls_after (ls ++ line ∷ [])) s room before next
+counting_goes_on ls line s t room out mid before now next d k n l f h =
+    let cs : List Call = calls_after ls in
+    let ds : List Call = calls_in (heard line) in
+    n l (ran l f cs) (d l f h).standing
+    ∙ ap (λ (x : Tally). tallied x (answers l (ran l f cs) ds)) (k l f h)
+    ∙ sym (tallied_append before (answers l f cs) (answers l (ran l f cs) ds))
+    ∙ ap (tallied before) (sym (ap (answers l f) (calls_after_more ls line) ∙ answers_append l f cs ds))
+
+pub counting_ends : (text : List ℕ) (ls : List (List ℕ)) (s : State) (room : ℕ) (before now : Tally) → ls ≡ lines text → CallsNoted (calls_after ls) s room before now → CallsNoted (calls text) s room before now
+counting_ends text ls s room before now all k = subst (λ (x : List (List ℕ)). CallsNoted (calls_after x) s room before now) all k

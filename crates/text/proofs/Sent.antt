@@ -3,8 +3,8 @@ use Rattle.std.proofs.Common.{◌≡◌, ℕ, ◌-◌, ◌^◌, ◌<◌, true, L
 use Rattle.std.specs.Result.{result_map_both}
 use Rattle.words.specs.Readers.{Read}
 use Rattle.words.proofs.Bounds.{Holds, holds_then, holds_any}
-use Rattle.openings.specs.declared.kind.Kind.{Kind}
-use Rattle.openings.specs.declared.kind.Kind.TheVariants.{Buys, Sells, Comes, Goes, BilledBy, Bills, PaysOut, PaysIn, MadeOf, Makes, Counted, StockOf, Account, Order, LotsOf, EntriesFrom}
+use Rattle.wire.specs.declared.call_kind.CallKind.{CallKind}
+use Rattle.wire.specs.declared.call_kind.CallKind.TheVariants.{Buys, Sells, Comes, Goes, BilledBy, Bills, PaysOut, PaysIn, MadeOf, Makes, Counted, StockOf, Account, Order, LotsOf, EntriesFrom}
 use Rattle.openings.specs.Openings.{opening}
 use Rattle.firm.specs.Calls.{Call, buys, sells, comes, goes, billed_by, bills, pays_out, pays_in, made_of, makes, counted, stock_of, account, order, lots_of, entries_from, garbled, call_number, readable}
 use Rattle.wire.specs.Calls.{Sendable, or_garbled}
@@ -12,7 +12,7 @@ use Rattle.call_lines.specs.Numbers.{one, two, three}
 use Rattle.call_lines.specs.Recipes.{head, parts}
 use Rattle.call_lines.specs.Lines.{of_one, of_two, of_three, recipe, call_after, call_or_rest, call_or_place, call_in_line}
 use Rattle.call_lines.specs.Readings.{reading_of}
-use Rattle.call_lines.specs.declared.reading.Reading.TheVariants as reading
+use Rattle.call_lines.specs.declared.error.LineError.TheVariants.{Misfit}
 use Rattle.call_lines.proofs.ReadableCalls.{lines_readable}
 
 -- a call of the table
@@ -34,7 +34,7 @@ recipe_numbered s =
     holds_then (λ _. Unit {0}) Numbered (head s) _ (holds_any (head s))
     (λ h _. holds_then (λ _. Unit {0}) Numbered (parts 255 [] h.1) (λ ps. Ok (made_of h.0 ps)) (holds_any (parts 255 [] h.1)) (λ ps _. omega arith))
 
-after_numbered : (k : Kind) (s : List ℕ) → Holds Numbered (call_after k s)
+after_numbered : (k : CallKind) (s : List ℕ) → Holds Numbered (call_after k s)
 unfolding call_after call_number
 after_numbered Buys s = three_numbered buys s (λ a b c. omega arith)
 after_numbered Sells s = three_numbered sells s (λ a b c. omega arith)
@@ -64,7 +64,7 @@ line_numbered line c e =
     (holds_then (λ _. Unit {0}) Numbered (opening line) (λ p. call_after p.0 p.1) (holds_any (opening line)) (λ p _. after_numbered p.0 p.1)) e
 
 -- WHERE A LINE IS A CALL
-pub sendable : (line : List ℕ) (r : Result Call ℕ) → call_or_place line ≡ r → length line < 2 ^ 64 → reading.Call ≡ reading_of r → Sendable (call_in_line line)
+pub sendable : (line : List ℕ) (r : Result Call ℕ) → call_or_place line ≡ r → length line < 2 ^ 64 → Ok tt ≡ reading_of r → Sendable (call_in_line line)
 sendable line (Ok c) e h is =
     let n : call_number c < 16 = line_numbered line c e in
     let p : readable c ≡ true = subst (λ (x : Result Call ℕ). readable (or_garbled x) ≡ true) e (lines_readable line h) in
@@ -72,6 +72,6 @@ sendable line (Ok c) e h is =
 sendable line (Err n) e h is = let z : ◌≡◌ {A = ℕ} 0 1 = cc in absurd (omega arith)
 
 -- and where it is none
-pub misfit : (line : List ℕ) (r : Result Call ℕ) (n : ℕ) → call_or_place line ≡ r → reading.Misfit n ≡ reading_of r → call_in_line line ≡ garbled n
+pub misfit : (line : List ℕ) (r : Result Call ℕ) (n : ℕ) → call_or_place line ≡ r → Err (Misfit n) ≡ reading_of r → call_in_line line ≡ garbled n
 misfit line (Ok c) n e is = let z : ◌≡◌ {A = ℕ} 0 1 = cc in absurd (omega arith)
 misfit line (Err m) n e is = let same : m ≡ n = cc in ap or_garbled e ∙ ap garbled same

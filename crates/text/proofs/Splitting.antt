@@ -1,32 +1,52 @@
--- The loop over a text's bytes. Assumes nothing.
-use Rattle.std.proofs.Common.{◌≡◌, ℕ, ◌+◌, ◌-◌, ◌<◌, ◌≤◌, cond, eqb, List, [], ◌∷◌, ◌++◌, length, get_or, take, drop, sym, refl, ap, ◌∙◌, append_assoc}
-use Rattle.std.specs.List.{flat_map}
-use Rattle.std.proofs.lemmas.List.{at_drop_more, at_drop_all, take_more, take_all, drop_all, take_rest, length-drop}
-use Rattle.std.proofs.lemmas.Bool.{cond_both, cond-true, cond-false, eq-eqb, ne_eqb}
+-- The lines of a text, as it is cut at line feeds. Assumes nothing.
+use Rattle.std.proofs.Common.{◌≡◌, ℕ, ◌<◌, Bool, false, cond, eqb, None, Option, Bor, map, List, [], ◌∷◌, ◌++◌, length, arith, sym, refl, ap, ◌∙◌, append_assoc, append-nil}
+use denote.Param.Members.{Mut}
+use Rattle.std.specs.Fn.{CalledAt}
+use Rattle.std.specs.Iterator.{Yields}
+use Rattle.std.specs.List.{flat_map, slice_split, onto_first}
+use Rattle.std.specs.declared.slice.Split.{Split}
+use Rattle.std.specs.Slice.Iter.{split_rest, split_done, split_callee, split_steps}
+use Rattle.std.proofs.lemmas.Iterator.Consumers.{YieldsList-end}
+use Rattle.std.proofs.lemmas.Iterator.Splits.{YieldsList-from_slice_split}
+use Rattle.std.proofs.lemmas.Bool.{cond_both, cond-true, cond-false}
+use Rattle.std.proofs.lemmas.Grind.{flat_map-append}
+use Rattle.std.proofs.lemmas.List.Splits.{length-slice_split}
 use Rattle.text.specs.Lines.{lines_after, lines, heard, lines_of_calls}
 
--- THE FIRST LINE: one byte more belongs to it, or it ends here
-at : (s : List ℕ) (i : ℕ) → i < length s → lines_after (take i s) (drop i s) ≡ cond (eqb (get_or s i 0) 10) (take i s ∷ lines_after [] (drop (i + 1) s)) (lines_after (take i s ++ get_or s i 0 ∷ []) (drop (i + 1) s))
-at s i h = at_drop_more (lines_after (take i s)) s i 0 h
+abbrev pub feed : ℕ → Bool
+feed c = eqb c 10
 
-pub line_more : (s : List ℕ) (i : ℕ) → i < length s → (get_or s i 0 ≡ 10 → ⊥) → lines_after (take (i + 1) s) (drop (i + 1) s) ≡ lines_after (take i s) (drop i s)
-line_more s i h ne = ap (λ (l : List ℕ). lines_after l (drop (i + 1) s)) (take_more s i 0 h) ∙ sym (at s i h ∙ cond-false _ _ _ (ne_eqb _ _ ne))
+-- the line so far stands in front of the first part
+abbrev behind : List ℕ → List (List ℕ) → List (List ℕ)
+behind l [] = []
+behind l (x ∷ xs) = (l ++ x) ∷ xs
 
--- the calls of a text are those of its first line, which ends at n, and of the rest, as the code cuts them
-pub cut_parts : (s : List ℕ) (n m : ℕ) → m ≡ n → n < length s → get_or s n 0 ≡ 10 → lines_after (take n s) (drop n s) ≡ lines s →
-    lines_of_calls s ≡ heard (take m s) ++ lines_of_calls (take (length s - (n + 1)) (drop (n + 1) s))
-cut_parts s n m k h e l =
-    ap (flat_map heard) (sym l ∙ at s n h ∙ cond-true _ _ _ (eq-eqb _ _ e))
-    ∙ ap (λ (x : List ℕ). heard (take n s) ++ lines_of_calls x) (sym (take_rest s (n + 1)))
-    ∙ ap (λ (j : ℕ). heard (take j s) ++ lines_of_calls (take (length s - (n + 1)) (drop (n + 1) s))) (sym k)
+behind_none : (xs : List (List ℕ)) → behind [] xs ≡ xs
+behind_none [] = refl
+behind_none (x ∷ xs) = refl
 
-pub end_parts : (s : List ℕ) (n : ℕ) → length s ≤ n → lines_after (take n s) (drop n s) ≡ lines s → lines_of_calls s ≡ heard s ++ lines_of_calls (take (length s - n) (drop n s))
-end_parts s n h l =
-    ap (flat_map heard) (sym l ∙ at_drop_all (lines_after (take n s)) s n h)
-    ∙ ap (λ (x : List ℕ). heard x ++ []) (take_all n s h) ∙ ap (λ (x : List ℕ). heard s ++ lines_of_calls x) (sym (take_rest s n ∙ drop_all n s h))
+behind_more : (l : List ℕ) (c : ℕ) (xs : List (List ℕ)) → 0 < length xs → behind (l ++ c ∷ []) xs ≡ behind l (onto_first c xs)
+behind_more l c [] h = absurd (omega arith)
+behind_more l c (x ∷ xs) h = ap (λ (y : List ℕ). y ∷ xs) (append_assoc l (c ∷ []) x)
 
-pub rest_length : (s : List ℕ) (k : ℕ) → length (take (length s - k) (drop k s)) ≡ length s - k
-rest_length s k = ap length (take_rest s k) ∙ length-drop k s
+parts_are : (l text : List ℕ) → lines_after l text ≡ behind l (slice_split feed text)
+parts_are l [] = ap (λ (x : List ℕ). x ∷ []) (sym (append-nil l))
+parts_are l (c ∷ cs) =
+    let some : 0 < length (slice_split feed cs) = omega (arith, length-slice_split feed cs) in
+    cond_both (eqb c 10) (l ∷ lines_after [] cs) (lines_after (l ++ c ∷ []) cs)
+    (λ (ls : List (List ℕ)). ls ≡ behind l (cond (eqb c 10) ([] ∷ slice_split feed cs) (onto_first c (slice_split feed cs))))
+    (λ e. ap (λ (x : List ℕ). x ∷ lines_after [] cs) (sym (append-nil l)) ∙ ap (λ (ls : List (List ℕ)). (l ++ []) ∷ ls) (parts_are [] cs ∙ behind_none (slice_split feed cs))
+    ∙ ap (behind l) (sym (cond-true (eqb c 10) ([] ∷ slice_split feed cs) (onto_first c (slice_split feed cs)) e)))
+    (λ e. parts_are (l ++ c ∷ []) cs ∙ behind_more l c (slice_split feed cs) some
+    ∙ ap (behind l) (sym (cond-false (eqb c 10) ([] ∷ slice_split feed cs) (onto_first c (slice_split feed cs)) e)))
+
+pub lines_are : (text : List ℕ) → slice_split feed text ≡ lines text
+lines_are text = sym (parts_are [] text ∙ behind_none (slice_split feed text))
+
+-- all parts that a closure cuts at line feeds are the lines
+pub all_lines : {F : Type 0} {g : Mut F (Bor ℕ × Unit {0}) Bool} {f : F} (s : Split ℕ F) (text : List ℕ) (xs : List (Bor (List ℕ))) (t : Split ℕ F) → Yields (split_steps g) s xs t → (r : Option (Bor (List ℕ))) (u : Split ℕ F) →
+    r ≡ None → split_steps g t r u → split_rest s ≡ text → split_done s ≡ false → split_callee s ≡ f → ((x : ℕ) (b : Bool) (q : F) → CalledAt g f x b q → (q ≡ f) × (b ≡ feed x)) → map (λ x. x.now) xs ≡ lines text
+all_lines {g = g} s text xs t y r u none step rest done closure by = (YieldsList-end (YieldsList-from_slice_split g feed text rest done closure by) xs t y r u none step).0 ∙ lines_are text
 
 -- what stands before a line feed, and what stands behind it
 lines_add : (l a b : List ℕ) → lines_after l (a ++ 10 ∷ b) ≡ lines_after l a ++ lines b
@@ -37,9 +57,5 @@ lines_add l (c ∷ a) b =
     (λ e. ap (λ (ls : List (List ℕ)). l ∷ ls) (lines_add [] a b) ∙ ap (λ (ls : List (List ℕ)). ls ++ lines b) (sym (cond-true (eqb c 10) (l ∷ lines_after [] a) (lines_after (l ++ c ∷ []) a) e)))
     (λ e. lines_add (l ++ c ∷ []) a b ∙ ap (λ (ls : List (List ℕ)). ls ++ lines b) (sym (cond-false (eqb c 10) (l ∷ lines_after [] a) (lines_after (l ++ c ∷ []) a) e)))
 
-joined_add : (xs ys : List (List ℕ)) → flat_map heard (xs ++ ys) ≡ flat_map heard xs ++ flat_map heard ys
-joined_add [] ys = refl
-joined_add (x ∷ xs) ys = ap (λ (ls : List (List ℕ)). heard x ++ ls) (joined_add xs ys) ∙ sym (append_assoc (heard x) (flat_map heard xs) (flat_map heard ys))
-
 pub call_lines_add : (a b : List ℕ) → lines_of_calls (a ++ 10 ∷ b) ≡ lines_of_calls a ++ lines_of_calls b
-call_lines_add a b = ap (flat_map heard) (lines_add [] a b) ∙ joined_add (lines a) (lines b)
+call_lines_add a b = ap (flat_map heard) (lines_add [] a b) ∙ flat_map-append heard (lines a) (lines b)

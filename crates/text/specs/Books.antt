@@ -1,21 +1,22 @@
 -- Books in memory of their own: what they keep, and what a text of calls does to them. Definitions only: nothing is assumed.
-use Rattle.std.specs.Prelude.{◌≡◌, ℕ, List, ◌++◌, length, vec_items}
+use Rattle.std.specs.Prelude.{◌≡◌, ℕ, List, ◌++◌}
 use Rattle.firm.specs.Firm.{Firm, new_firm}
 use Rattle.firm.specs.Calls.{Call, Limits}
 use Rattle.firm.specs.Answers.{answers, ran}
 use Rattle.layout.specs.declared.limits.Limits as layout
-use Rattle.records.specs.State.{State, state}
+use Rattle.records.specs.State.{State}
+use Rattle.session.specs.Held.{words_of, room_of}
 use Rattle.text.specs.Run.{books_limits, calls, printed}
 use Rattle.text.specs.Standing.{Standing}
 use Rattle.text.specs.Tallies.{no_tally, tallied}
 use Rattle.text.specs.declared.books.Books.{Books}
 
 abbrev pub memory_of : Books → State
-memory_of b = state (vec_items b.wide) (vec_items b.narrow)
+memory_of b = words_of b.held
 
 -- the books keep the firm f: their memory stands for it, and has room for its answers
 abbrev pub Keeps : Limits → Firm → Books → Type 0
-Keeps l f b = Standing l f (memory_of b) (length (vec_items b.answer))
+Keeps l f b = Standing l f (memory_of b) (room_of b.held)
 
 -- books that have taken no call yet
 pub record New (l : layout.Limits) (b : Books) : Type 0 where

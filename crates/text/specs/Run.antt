@@ -1,21 +1,20 @@
 -- THE WHOLE RUN: what is written for a text of calls. Definitions only: nothing is assumed.
-use Rattle.std.specs.Prelude.{ℕ, cond, List, map}
+use Rattle.std.specs.Prelude.{ℕ, List, map}
 use Rattle.std.specs.List.{flat_map}
 use Rattle.firm.specs.Firm.{new_firm}
 use Rattle.firm.specs.Calls.{Call, Answer, Limits}
 use Rattle.firm.specs.Answers.{answers}
-use Rattle.firm.specs.Promise.{thin}
-use Rattle.layout.specs.Layout.{is_good}
 use Rattle.layout.specs.declared.limits.Limits as layout
 use Rattle.call_lines.specs.Lines.{call_in_line}
 use Rattle.answer_lines.specs.Shown.{shown_line}
 use Rattle.text.specs.Lines.{lines_of_calls}
-use Rattle.text.specs.declared.error.RunError.{RunError}
-use Rattle.text.specs.declared.error.RunError.TheVariants.{LimitsOutOfRange, OutOfMemory}
+use Rattle.session.specs.Held.{unheld}
+use Rattle.session.specs.Running as session
+use Rattle.session.specs.declared.error.RunError.{RunError}
 
 -- what the books are opened with, and which calls this stage can do
 abbrev pub books_limits : layout.Limits → Limits
-books_limits l = record { calls_can = thin; items = l.items; orders = l.orders; lots = l.lots; parts = l.parts; entries = l.entries }
+books_limits = session.books_limits
 
 -- the calls of some lines: a line that is no call counts as what is garbled from the first word on that does not fit
 abbrev pub calls_in : List (List ℕ) → List Call
@@ -35,4 +34,4 @@ ran l text = printed (answers (books_limits l) new_firm (calls text))
 
 -- why nothing is written: limits out of range, and else nothing but want of memory
 abbrev pub failure : layout.Limits → RunError
-failure l = cond (is_good l) OutOfMemory LimitsOutOfRange
+failure l = unheld l

@@ -1,85 +1,59 @@
 //! Books in memory of their own, opened once, that answer one text of calls after another.
 
-ghost use Rattle.std.specs.Prelude.{◌≡◌, true, length, IfOk, MatchResult, OnOk};
-ghost use Rattle.firm.specs.Firm.{new_firm};
-ghost use Rattle.layout.specs.Layout.{Good, is_good, wide_need, narrow_need, answer_need};
-ghost use Rattle.records.specs.State.{state};
-ghost use Rattle.text.specs.Books.{New, Answered};
-ghost use Rattle.text.specs.Run.{failure, books_limits};
-ghost use Rattle.text.specs.Standing.{Standing};
+ghost use Rattle.std.specs.Prelude.{◌≡◌, true, MatchResult, OnOk};
+ghost use Rattle.layout.specs.Layout.{is_good};
+ghost use Rattle.memory.specs.Books.{limits_in};
+ghost use Rattle.memory.specs.Lent.{seen};
+ghost use Rattle.session.specs.Held.{room_of};
+ghost use Rattle.text.specs.Books.{memory_of, New, Answered};
+ghost use Rattle.text.specs.Noting.{CallsNoted};
+ghost use Rattle.text.specs.Run.{calls, failure};
+ghost use Rattle.text.specs.Standing.{CallsDone};
 
-use crate::error::RunError;
-use crate::running::answer_text;
 use crate::tally::Tally;
 use layout::Limits;
+use memory::View;
+use session::{Held, RunError};
 use std::alloc::{AllocError, Global};
 
-/// Books and the memory that they are kept in.
+/// Books, the memory that they are kept in, and how many calls they took and turned away.
 #[derive(Drop)]
 pub struct Books {
-    wide: Vec<u64>,
-    narrow: Vec<u32>,
+    pub(crate) held: Held,
     // the bytes of the call at hand
-    call: Vec<u8>,
-    // the bytes for an answer
-    answer: Vec<u8>,
-    tally: Tally,
-}
-
-// Opens books in memory of just the size that good limits ask for.
-fn open_in(wide: &mut [u64], narrow: &mut [u32], limits: Limits)
-    requires good { Good limits }
-    requires wide { length wide.old ≡ wide_need limits }
-    requires narrow { length narrow.old ≡ narrow_need limits }
-    ensures { Standing (books_limits limits) new_firm (state wide.new narrow.new) (answer_need limits) }
-{
-    let _ = memory::open(wide, narrow, limits);
+    pub(crate) call: Vec<u8>,
+    pub(crate) tally: Tally,
 }
 
 impl Books {
-    // New books of good limits.
-    fn open_within(heap: Global, limits: Limits) -> Result<Books, AllocError>
-        requires { Good limits }
-        ensures { IfOk result (New limits) }
-    {
-        let mut wide = vec![in heap; 0u64; limits.wide_need()]?;
-        let mut narrow = vec![in heap; 0u32; limits.narrow_need()]?;
-        let answer = vec![in heap; 0u8; limits.answer_need()]?;
-        open_in(&mut wide, &mut narrow, limits);
-        Ok(Books {
-            wide,
-            narrow,
-            call: Vec::new(heap),
-            answer,
-            tally: Tally::new(),
-        })
-    }
-
     /// New books of these limits, which have taken no call yet. The memory that they are kept in is asked for here, once.
     pub fn open(heap: Global, limits: Limits) -> Result<Books, RunError>
         ensures { MatchResult result (λ b. (is_good limits ≡ true) × New limits b) (λ e. e ≡ failure limits) }
     {
-        if !limits.are_good() {
-            return Err(RunError::LimitsOutOfRange);
+        Ok(Books {
+            held: Held::open(heap, limits)?,
+            call: Vec::new(heap),
+            tally: Tally::new(),
+        })
+    }
+
+    // Line by line.
+    fn answer_lines(&mut self, text: &[u8], out: &mut Vec<u8>) -> Result<(), AllocError>
+        ensures done { OnOk result (CallsDone (calls text.now) (memory_of self.old) (memory_of self.new) (room_of self.old.held) out.old.items out.new.items) }
+        ensures counted { OnOk result (CallsNoted (calls text.now) (memory_of self.old) (room_of self.old.held) self.old.tally self.new.tally) }
+        ensures room { OnOk result (room_of self.new.held ≡ room_of self.old.held) }
+    {
+        for line in text.split(|byte| *byte == b'\n') {
+            self.answer_if_heard(line, out)?;
         }
-        let books = Books::open_within(heap, limits)?;
-        Ok(books)
+        Ok(())
     }
 
     /// Appends what the books answer to the calls of a text, a line for each line that is neither blank nor a remark.
     pub fn answer(&mut self, text: &[u8], out: &mut Vec<u8>) -> Result<(), AllocError>
         ensures { OnOk result (Answered text.now self.old self.new out.old.items out.new.items) }
     {
-        answer_text(
-            &mut self.wide,
-            &mut self.narrow,
-            text,
-            &mut self.call,
-            &mut self.answer,
-            &mut self.tally,
-            out,
-        )?;
-        Ok(())
+        self.answer_lines(text, out)
     }
 
     /// How many calls were taken and turned away so far.
@@ -89,17 +63,11 @@ impl Books {
         self.tally
     }
 
-    /// The 64-bit words that the books are kept in.
-    pub fn wide(&self) -> &[u64]
-        ensures { result.now ≡ self.now.wide.items }
+    /// The memory of the books, to be read.
+    pub fn view(&self) -> View<'_>
+        ensures words { seen result ≡ memory_of self.now }
+        ensures limits { result.limits ≡ limits_in self.now.held.narrow.items }
     {
-        self.wide.as_slice()
-    }
-
-    /// The 32-bit words that the books are kept in.
-    pub fn narrow(&self) -> &[u32]
-        ensures { result.now ≡ self.now.narrow.items }
-    {
-        self.narrow.as_slice()
+        self.held.view()
     }
 }

@@ -4,14 +4,13 @@
 
 mod answering;
 mod books;
-mod error;
 mod laws;
 mod lines;
 mod running;
 mod tally;
 
 pub use books::Books;
-pub use error::RunError;
 pub use laws::{line_by_line_stands, tally_counts_stands};
 pub use running::run;
+pub use session::RunError;
 pub use tally::{REFUSALS, Tally};

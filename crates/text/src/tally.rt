@@ -2,17 +2,17 @@
 
 ghost use Rattle.std.specs.Prelude.{◌≡◌, cond, length};
 ghost use Rattle.wire.specs.Answers.{answer_of};
-ghost use Rattle.wire.specs.Told.{told};
+ghost use Rattle.wire.specs.Told.{refusal_number, told};
 ghost use Rattle.text.specs.Tallies.{no_tally, with_taken, with_refused, with_lines, noted_if};
 
 use fields::ROW_OF_FOUR;
-use wire::{Answer, read_answer, refusal_number};
+use wire::{Answer, Refusal, read_answer};
 
 /// Refusals have the numbers below this.
 pub const REFUSALS: usize = 10;
 
 /// How many calls were taken, how many were turned away, and how many of these by each refusal. A count stops at the largest number.
-#[derive(Clone, Copy)]
+#[derive(Clone, Copy, PartialEq, Eq, Debug)]
 pub struct Tally {
     pub taken: u64,
     pub turned: u64,
@@ -46,25 +46,21 @@ impl Tally {
         }
     }
 
-    pub(crate) fn refuse(&mut self, number: u64)
-        ensures { self.new ≡ with_refused number self.old }
+    pub(crate) fn refuse(&mut self, refusal: Refusal)
+        ensures { self.new ≡ with_refused (refusal_number refusal) self.old }
     {
         self.turned = self.turned.saturating_add(1);
-        if number < REFUSALS as u64 {
-            let k = number as usize;
-            self.by[k] = self.by[k].saturating_add(1);
-        }
+        let k = refusal as usize;
+        self.by[k] = self.by[k].saturating_add(1);
     }
 
     fn note_read(&mut self, answer: Answer<'_>)
         ensures { self.new ≡ noted_if (told answer.entry) self.old }
     {
         match answer {
-            Answer::Refused(refusal, _place) => self.refuse(refusal_number(refusal)),
-            Answer::Number(_n) => self.take(),
-            Answer::Two(_a, _b) => self.take(),
-            Answer::Lots(lines) => self.take_lines(lines),
-            Answer::Entries(lines) => self.take_lines(lines),
+            Answer::Refused(refusal, _) => self.refuse(refusal),
+            Answer::Number(_) | Answer::Two(_, _) => self.take(),
+            Answer::Lots(lines) | Answer::Entries(lines) => self.take_lines(lines),
         }
     }
 
@@ -72,9 +68,8 @@ impl Tally {
     pub fn note(&mut self, answer: &[u8])
         ensures { self.new ≡ noted_if (answer_of answer.now) self.old }
     {
-        match read_answer(answer) {
-            Some(read) => self.note_read(read),
-            None => {}
+        if let Some(read) = read_answer(answer) {
+            self.note_read(read);
         }
     }
 }

@@ -1,7 +1,7 @@
 //! Recipes as text.
 
 use crate::rows::{ceases, is_call};
-use call_lines::{Reading, read_line};
+use call_lines::{LineError, read_line};
 use std::alloc::{AllocError, Global};
 use std::test::Fail;
 
@@ -73,12 +73,12 @@ fn most_parts(rt: HostRuntime) -> Result<(), Fail> {
     let fits = long_line(heap, 255)?;
     let over = long_line(heap, 256)?;
     let mut call = Vec::new(heap);
-    assert_eq!(rt; read_line(fits.as_slice(), &mut call)?, Reading::Call);
+    assert_eq!(rt; read_line(fits.as_slice(), &mut call), Ok(()));
     assert!(rt; call.len() == 10 + 16 * 255);
     assert!(rt; call[9] == 255);
     assert_eq!(rt;
-        read_line(over.as_slice(), &mut call)?,
-        Reading::Misfit(fits.len())
+        read_line(over.as_slice(), &mut call),
+        Err(LineError::Misfit(fits.len()))
     );
     assert!(rt; call.len() == 0);
     Ok(())

@@ -1,6 +1,6 @@
 //! Rows of bytes, as the tests want them.
 
-use call_lines::{Reading, read_line};
+use call_lines::{LineError, read_line};
 use std::alloc::{AllocError, Global};
 use std::process::Abort;
 use std::test::Fail;
@@ -20,7 +20,7 @@ pub fn row(heap: Global, first: u8, fields: &[u64]) -> Result<Vec<u8>, AllocErro
 pub fn is_call(rt: &impl Abort, heap: Global, line: &[u8], bytes: &[u8]) -> Result<(), Fail> {
     let mut call = Vec::new(heap);
     call.extend_from_slice(b"what was there before")?;
-    assert_eq!(rt; read_line(line, &mut call)?, Reading::Call);
+    assert_eq!(rt; read_line(line, &mut call), Ok(()));
     assert!(rt; same(call.as_slice(), bytes));
     Ok(())
 }
@@ -41,7 +41,7 @@ pub fn reads(
 pub fn ceases(rt: &impl Abort, heap: Global, line: &[u8], place: usize) -> Result<(), Fail> {
     let mut call = Vec::new(heap);
     call.extend_from_slice(b"what was there before")?;
-    assert_eq!(rt; read_line(line, &mut call)?, Reading::Misfit(place));
+    assert_eq!(rt; read_line(line, &mut call), Err(LineError::Misfit(place)));
     assert!(rt; call.len() == 0);
     Ok(())
 }

@@ -5,19 +5,9 @@
 #[cfg(test)]
 mod tests {
     use layout::{Counter, Limits};
-    use memory::Opening;
+    use memory::{Memory, OpenError};
     use records::{Entry, Lot, Order, Part};
     use std::test::Fail;
-    use store::Refusal;
-
-    // 0 where books were opened, 1 where the limits were refused, 2 where the memory was.
-    fn number_of(opening: Opening) -> u8 {
-        match opening {
-            Opening::Done => 0,
-            Opening::LimitsOutOfRange => 1,
-            Opening::MemoryTooSmall => 2,
-        }
-    }
 
     fn same(each: u32) -> Limits {
         Limits {
@@ -38,33 +28,53 @@ mod tests {
         }
     }
 
+    fn lent<'a>(wide: &'a mut [u64], narrow: &'a mut [u32], limits: Limits) -> Memory<'a> {
+        Memory {
+            wide,
+            narrow,
+            limits,
+        }
+    }
+
+    // Books opened in lent memory.
+    fn opened<'a>(
+        wide: &'a mut [u64],
+        narrow: &'a mut [u32],
+        limits: Limits,
+    ) -> Result<Memory<'a>, OpenError> {
+        memory::open(wide, narrow, limits)?;
+        Ok(lent(wide, narrow, limits))
+    }
+
     #[test]
     fn opens_at_zero(rt: HostRuntime) {
         let mut wide = [5u64; 65];
         let mut narrow = [5u32; 71];
-        assert_eq!(rt; same(0).wide_need(), 64);
-        assert_eq!(rt; same(0).narrow_need(), 70);
-        assert_eq!(rt; number_of(memory::open(&mut wide, &mut narrow, same(0))), 0);
+        let limits = same(0);
+        assert_eq!(rt; limits.wide_need(), 64);
+        assert_eq!(rt; limits.narrow_need(), 70);
+        assert_eq!(rt; memory::open(&mut wide, &mut narrow, limits), Ok(()));
         assert_eq!(rt; wide[63], 0);
         assert_eq!(rt; wide[64], 5);
         assert_eq!(rt; narrow[70], 5);
-        assert!(rt; store::add_lot(&mut wide, &mut narrow, same(0), lot(0, 1)).is_err());
+        let mut memory = lent(&mut wide, &mut narrow, limits);
+        assert!(rt; store::add_lot(&mut memory, lot(0, 1)).is_err());
     }
 
     #[test]
     fn opens_at_one(rt: HostRuntime) -> Result<(), Fail> {
         let mut wide = [5u64; 70];
         let mut narrow = [5u32; 94];
-        assert_eq!(rt; same(1).wide_need(), 70);
-        assert_eq!(rt; same(1).narrow_need(), 94);
-        assert_eq!(rt; number_of(memory::open(&mut wide, &mut narrow, same(1))), 0);
-        assert!(rt; store::add_lot(&mut wide, &mut narrow, same(1), lot(0, 9)).is_ok());
-        assert!(rt; store::add_lot(&mut wide, &mut narrow, same(1), lot(0, 9)).is_err());
-        assert!(rt; store::remove_lot(&wide, &mut narrow, same(1), 0).is_ok());
-        assert!(rt; store::add_lot(&mut wide, &mut narrow, same(1), lot(0, 8)).is_ok());
-        let Some(kept) = store::nth_lot(&wide, &narrow, same(1), 0, 0) else {
-            return Err(Fail::new("no lot"));
-        };
+        let limits = same(1);
+        assert_eq!(rt; limits.wide_need(), 70);
+        assert_eq!(rt; limits.narrow_need(), 94);
+        let mut memory = opened(&mut wide, &mut narrow, limits)?;
+        assert!(rt; store::add_lot(&mut memory, lot(0, 9)).is_ok());
+        assert!(rt; store::add_lot(&mut memory, lot(0, 9)).is_err());
+        assert!(rt; store::remove_lot(&wide, &mut narrow, limits, 0).is_ok());
+        let mut memory = lent(&mut wide, &mut narrow, limits);
+        assert!(rt; store::add_lot(&mut memory, lot(0, 8)).is_ok());
+        let kept = store::nth_lot(memory.view(), 0, 0).ok_or("no lot")?;
         assert_eq!(rt; kept.pieces, 8);
         Ok(())
     }
@@ -73,10 +83,13 @@ mod tests {
     fn refuses_and_keeps(rt: HostRuntime) {
         let mut wide = [5u64; 69];
         let mut narrow = [5u32; 94];
-        assert_eq!(rt; number_of(memory::open(&mut wide, &mut narrow, same(1))), 2);
         assert_eq!(rt;
-            number_of(memory::open(&mut wide, &mut narrow, same(4097))),
-            1
+            memory::open(&mut wide, &mut narrow, same(1)),
+            Err(OpenError::MemoryTooSmall)
+        );
+        assert_eq!(rt;
+            memory::open(&mut wide, &mut narrow, same(4097)),
+            Err(OpenError::LimitsOutOfRange)
         );
         assert_eq!(rt; wide[0], 5);
         assert_eq!(rt; narrow[0], 5);
@@ -93,12 +106,13 @@ mod tests {
         };
         let mut wide = vec![in rt.alloc(); 1u64; limits.wide_need()]?;
         let mut narrow = vec![in rt.alloc(); 1u32; limits.narrow_need()]?;
-        assert_eq!(rt; number_of(memory::open(&mut wide, &mut narrow, limits)), 0);
-        assert_eq!(rt; memory::limits_in(&narrow).entries, layout::MOST_ENTRIES);
-        assert!(rt; store::add_lot(&mut wide, &mut narrow, limits, lot(4095, 6)).is_ok());
-        let Some(kept) = store::nth_lot(&wide, &narrow, limits, 4095, 0) else {
-            return Err(Fail::new("no lot"));
-        };
+        let mut memory = opened(&mut wide, &mut narrow, limits)?;
+        assert_eq!(rt;
+            memory::limits_in(memory.view().narrow).entries,
+            layout::MOST_ENTRIES
+        );
+        assert!(rt; store::add_lot(&mut memory, lot(4095, 6)).is_ok());
+        let kept = store::nth_lot(memory.view(), 4095, 0).ok_or("no lot")?;
         assert_eq!(rt; kept.pieces, 6);
         Ok(())
     }
@@ -114,39 +128,28 @@ mod tests {
         };
         let mut wide = vec![in rt.alloc(); 1u64; limits.wide_need()]?;
         let mut narrow = vec![in rt.alloc(); 1u32; limits.narrow_need()]?;
-        assert_eq!(rt; number_of(memory::open(&mut wide, &mut narrow, limits)), 0);
+        let mut memory = opened(&mut wide, &mut narrow, limits)?;
         for k in 0..1000 {
-            assert!(rt; store::add_lot(&mut wide, &mut narrow, limits, lot(k % 7, k)).is_ok());
+            assert!(rt; store::add_lot(&mut memory, lot(k % 7, k)).is_ok());
         }
-        assert!(rt; store::add_lot(&mut wide, &mut narrow, limits, lot(1, 1)).is_err());
+        assert!(rt; store::add_lot(&mut memory, lot(1, 1)).is_err());
         for k in 0..142 {
-            let Some(kept) = store::nth_lot(&wide, &narrow, limits, 3, k) else {
-                return Err(Fail::new("no lot"));
-            };
+            let kept = store::nth_lot(memory.view(), 3, k).ok_or("no lot")?;
             assert_eq!(rt; kept.pieces, 7 * k + 3);
         }
-        let Some(mut cell) = store::first_lot(&narrow, limits, 3) else {
-            return Err(Fail::new("no lot"));
-        };
+        let mut cell = store::first_lot(memory.view(), 3).ok_or("no lot")?;
         for k in 1..143 {
-            let Some(next) = store::lot_after(&narrow, limits, cell) else {
-                return Err(Fail::new("the row ends early"));
-            };
-            assert_eq!(rt;
-                memory::lot_at(&wide, &narrow, limits, next).pieces,
-                7 * k + 3
-            );
-            cell = next;
+            cell = store::lot_after(memory.view(), cell).ok_or("the row ends early")?;
+            assert_eq!(rt; memory.view().lot(cell).pieces, 7 * k + 3);
         }
-        assert_eq!(rt; store::lot_after(&narrow, limits, cell), None);
+        assert_eq!(rt; store::lot_after(memory.view(), cell), None);
         for k in 0..143 {
-            let Ok(gone) = store::remove_lot(&wide, &mut narrow, limits, 0) else {
-                return Err(Fail::new("none is left"));
-            };
+            let gone = store::remove_lot(&wide, &mut narrow, limits, 0)?;
             assert_eq!(rt; gone.pieces, 7 * k);
         }
         assert!(rt; store::remove_lot(&wide, &mut narrow, limits, 0).is_err());
-        assert_eq!(rt; memory::count(&narrow, Counter::Lots), 857);
+        let memory = lent(&mut wide, &mut narrow, limits);
+        assert_eq!(rt; memory.view().count(Counter::Lots), 857);
         Ok(())
     }
 
@@ -154,8 +157,7 @@ mod tests {
     fn orders_entries_and_recipes(rt: HostRuntime) -> Result<(), Fail> {
         let mut wide = [1u64; 100];
         let mut narrow = [1u32; 200];
-        let limits = same(3);
-        assert_eq!(rt; number_of(memory::open(&mut wide, &mut narrow, limits)), 0);
+        let mut memory = opened(&mut wide, &mut narrow, same(3))?;
         let order = Order {
             sells: true,
             item: 2,
@@ -164,44 +166,33 @@ mod tests {
             moved: 0,
             billed: 0,
         };
-        assert!(rt; store::add_order(&mut narrow, limits, order).is_ok());
-        assert!(rt; store::add_order(&mut narrow, limits, Order { item: 1, ..order }).is_ok());
-        assert!(rt; store::add_order(&mut narrow, limits, order).is_ok());
-        assert!(rt; store::add_order(&mut narrow, limits, order).is_err());
-        assert_eq!(rt; store::nth_order(&narrow, limits, 2, 1), Some(2));
-        assert_eq!(rt; store::nth_order(&narrow, limits, 1, 0), Some(1));
-        assert_eq!(rt; store::nth_order(&narrow, limits, 0, 0), None);
+        assert!(rt; store::add_order(&mut memory, order).is_ok());
+        assert!(rt; store::add_order(&mut memory, Order { item: 1, ..order }).is_ok());
+        assert!(rt; store::add_order(&mut memory, order).is_ok());
+        assert!(rt; store::add_order(&mut memory, order).is_err());
+        assert_eq!(rt; store::nth_order(memory.view(), 2, 1), Some(2));
+        assert_eq!(rt; store::nth_order(memory.view(), 1, 0), Some(1));
+        assert_eq!(rt; store::nth_order(memory.view(), 0, 0), None);
         let entry = Entry {
             left: 0,
             right: 4,
             amount: 900,
             document: 1,
         };
-        assert!(rt; store::add_entry(&mut wide, &mut narrow, limits, entry).is_ok());
-        assert!(rt;
-            store::add_entry(
-                &mut wide,
-                &mut narrow,
-                limits,
-                Entry {
-                    left: 4,
-                    amount: 8,
-                    ..entry
-                },
-            )
-            .is_ok()
-        );
-        assert!(rt;
-            store::add_entry(&mut wide, &mut narrow, limits, Entry { left: 16, ..entry },).is_err()
-        );
-        let Some(last) = store::nth_entry(&wide, &narrow, limits, 4, 2) else {
-            return Err(Fail::new("no entry"));
+        let back = Entry {
+            left: 4,
+            amount: 8,
+            ..entry
         };
+        assert!(rt; store::add_entry(&mut memory, entry).is_ok());
+        assert!(rt; store::add_entry(&mut memory, back).is_ok());
+        assert!(rt; store::add_entry(&mut memory, Entry { left: 16, ..entry }).is_err());
+        let last = store::nth_entry(memory.view(), 4, 2).ok_or("no entry")?;
         assert_eq!(rt; last.amount, 8);
-        assert!(rt; store::add_recipe(&mut narrow, limits, 1, 1).is_ok());
-        assert!(rt; store::add_part(&mut narrow, limits, Part { item: 2, each: 6 }).is_ok());
-        assert_eq!(rt; memory::recipe_of(&narrow, 1).first, 1);
-        assert_eq!(rt; memory::part_at(&narrow, limits, 1).each, 6);
+        assert!(rt; store::add_recipe(&mut memory, 1, 1).is_ok());
+        assert!(rt; store::add_part(&mut memory, Part { item: 2, each: 6 }).is_ok());
+        assert_eq!(rt; memory.view().recipe(1).first, 1);
+        assert_eq!(rt; memory.view().part(1).each, 6);
         Ok(())
     }
 }

@@ -1,23 +1,18 @@
 -- Answers that are lists. Assumes nothing.
-use Rattle.std.proofs.Common.{◌≡◌, ℕ, suc, ◌+◌, ◌-◌, ◌*◌, ◌/◌, ◌%◌, ◌<◌, ◌≤◌, true, false, cond, eqb, List, [], ◌∷◌, ◌++◌, length, drop, Some, None, Option, sym, refl, ap, ◌∙◌, ⊎_elim, arith, length-append, length-drop}
+use Rattle.std.proofs.Common.{◌≡◌, ℕ, suc, ◌+◌, ◌-◌, ◌*◌, ◌/◌, ◌%◌, ◌<◌, ◌≤◌, true, false, cond, eqb, List, [], ◌∷◌, ◌++◌, length, drop, Some, None, Option, sym, ap, ◌∙◌, ⊎_elim, arith, length-append, length-drop}
 use borrow.Rule.Slice.PartMut.{put_mid}
 use Rattle.std.specs.List.{flat_map}
 use Rattle.std.proofs.lemmas.Bool.{cond-true, cond-false, eq-eqb, eqb-true, cases_Bool}
-use Rattle.fields.specs.Bytes.{Bytes, value, field_at}
+use Rattle.fields.specs.Bytes.{Bytes, field_at, all_fields, fields_from}
 use Rattle.fields.specs.Written.{Written, wrote, written, over, row_written}
 use Rattle.fields.proofs.Numbers.{length_fields}
 use Rattle.fields.proofs.Rows.{fits, too_long, over_more}
-use Rattle.firm.specs.Calls.{Answer, lots, entries}
-use Rattle.wire.specs.Rows.{rows, lot_in, lot_bytes, entry_in, entry_bytes}
-use Rattle.wire.specs.Answers.{list_head, if_sized, answer_of, bytes_of_answer}
-use Rattle.wire.specs.Told.{if_lines, lots_in, entries_in, answer_row}
-use Rattle.wire.proofs.RowLaws.{length_rows, lots_again, entries_again}
+use Rattle.firm.specs.Calls.{Answer}
+use Rattle.wire.specs.Rows.{rows}
+use Rattle.wire.specs.Answers.{list_head, if_sized, bytes_of_answer}
+use Rattle.wire.specs.Told.{if_lines, answer_row}
+use Rattle.wire.proofs.RowLaws.{length_rows, fields_again}
 use Rattle.wire.proofs.Heads.{head_put}
-
-pub no_answer : (bs : List ℕ) → length bs ≡ 0 → None ≡ answer_of bs
-unfolding answer_of field_at value
-no_answer [] h = refl
-no_answer (b ∷ bs) h = absurd (omega arith)
 
 -- the lines behind a count
 pub lines_are : (bs tail : List ℕ) → 9 ≤ length bs → tail ≡ drop 9 bs → (length bs - 9) % 32 ≡ 0 → (length bs - 9) / 32 ≡ field_at 1 bs
@@ -70,31 +65,20 @@ lines_fit kind m r ls old x new z h j e f =
     ∙ sym (cond-true (eqb (length ls % 32) 0) (written (lines_row kind ls) old) (wrote None old) (eq-eqb (length ls % 32) 0 z))
 
 -- which are the lines of the answer that they are read as
-rows_put : {A : Type 0} (enc : A → List ℕ) (read : List ℕ → A) (make : List A → Answer) (kind : ℕ)
-    → ((xs : List A) → bytes_of_answer (make xs) ≡ list_head kind (length xs) ++ flat_map enc xs)
-    → ((n : ℕ) (bs : List ℕ) → Bytes bs → length bs ≡ 32 * n → flat_map enc (rows read 32 n bs) ≡ bs)
-    → (ls old : List ℕ) → Bytes ls → lines_put kind ls old ≡ row_written (answer_row (if_lines ls (make (rows read 32 (length ls / 32) ls)))) old
-rows_put enc read make kind shape again ls old b =
+pub rows_put : {A : Type 0} (enc : A → List ℕ) (read : List ℕ → A) (kind : ℕ) (ls old : List ℕ) (all : List A) (x : Answer) → Bytes ls → ((bs : List ℕ) → enc (read bs) ≡ all_fields (fields_from 4 0 bs))
+    → all ≡ rows read 32 (length ls / 32) ls → bytes_of_answer x ≡ list_head kind (length all) ++ flat_map enc all → lines_put kind ls old ≡ row_written (answer_row (if_lines ls x)) old
+rows_put {A} enc read kind ls old all x b by each shape =
     ⊎_elim
     (λ (t : eqb (length ls % 32) 0 ≡ true).
     let m : length ls % 32 ≡ 0 = eqb-true (length ls % 32) 0 t in
     let a = cond-true (eqb (length ls % 32) 0) (written (lines_row kind ls) old) (wrote None old) t in
-    let c = cond-true (eqb (length ls % 32) 0) (Some (make (rows read 32 (length ls / 32) ls))) None t in
-    let n : length (rows read 32 (length ls / 32) ls) ≡ length ls / 32 = length_rows read 32 (length ls / 32) ls in
-    let j : flat_map enc (rows read 32 (length ls / 32) ls) ≡ ls = again (length ls / 32) ls b (omega arith) in
-    let s : bytes_of_answer (make (rows read 32 (length ls / 32) ls)) ≡ lines_row kind ls =
-    shape (rows read 32 (length ls / 32) ls) ∙ ap (λ (k : ℕ). list_head kind k ++ flat_map enc (rows read 32 (length ls / 32) ls)) n ∙ ap (λ (xs : List ℕ). list_head kind (length ls / 32) ++ xs) j in
+    let c = cond-true (eqb (length ls % 32) 0) (Some x) None t in
+    let n : length all ≡ length ls / 32 = ap length each ∙ length_rows read 32 (length ls / 32) ls in
+    let j : flat_map enc all ≡ ls = ap (flat_map enc) each ∙ fields_again read enc 4 by (length ls / 32) ls b (omega arith) in
+    let s : bytes_of_answer x ≡ lines_row kind ls = shape ∙ ap (λ (k : ℕ). list_head kind k ++ flat_map enc all) n ∙ ap (λ (xs : List ℕ). list_head kind (length ls / 32) ++ xs) j in
     a ∙ sym (ap (λ (o : Option Answer). row_written (answer_row o) old) c ∙ ap (λ (bs : List ℕ). row_written bs old) s))
     (λ (t : eqb (length ls % 32) 0 ≡ false).
     let a = cond-false (eqb (length ls % 32) 0) (written (lines_row kind ls) old) (wrote None old) t in
-    let c = cond-false (eqb (length ls % 32) 0) (Some (make (rows read 32 (length ls / 32) ls))) None t in
+    let c = cond-false (eqb (length ls % 32) 0) (Some x) None t in
     a ∙ sym (ap (λ (o : Option Answer). row_written (answer_row o) old) c))
     (cases_Bool (eqb (length ls % 32) 0))
-
-pub lots_put : (ls old : List ℕ) → Bytes ls → lines_put 3 ls old ≡ row_written (answer_row (if_lines ls (lots (lots_in ls)))) old
-unfolding lots_in
-lots_put ls old b = rows_put lot_bytes lot_in lots 3 (λ xs. refl) lots_again ls old b
-
-pub entries_put : (ls old : List ℕ) → Bytes ls → lines_put 4 ls old ≡ row_written (answer_row (if_lines ls (entries (entries_in ls)))) old
-unfolding entries_in
-entries_put ls old b = rows_put entry_bytes entry_in entries 4 (λ xs. refl) entries_again ls old b

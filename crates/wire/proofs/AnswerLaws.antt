@@ -2,6 +2,7 @@
 use Rattle.std.proofs.Common.{◌≡◌, ℕ, zero, suc, ◌+◌, ◌*◌, ◌<◌, ◌≤◌, Bool, true, false, cond, ◌&&◌, eqb, leb, List, [], ◌∷◌, ◌++◌, length, get_or, take, drop, Some, None, sym, refl, ap, ◌∙◌, subst, ⊎_elim, arith, length-drop, take-append-drop}
 use Rattle.std.specs.List.{flat_map}
 use Rattle.std.proofs.lemmas.List.{get_or_past, drop_more, drop-drop, append-nil}
+use Rattle.std.proofs.lemmas.Option.{cond_some}
 use Rattle.std.proofs.lemmas.Bool.{cond-true, eq-eqb, eqb-true, leb-true, and_parts, and_from, cases_lt}
 use Rattle.fields.specs.Bytes.{Bytes, value, digits, field_bytes, field_at, all_fields}
 use Rattle.fields.proofs.Numbers.{value_digits, field_back, bytes_drop}
@@ -99,11 +100,7 @@ table = (
   ),
 )
 
--- what a test that gave something tells
-some_if : (t : Bool) (x a : firm.Answer) → cond t (Some x) None ≡ Some a → (t ≡ true) × (x ≡ a)
-some_if true x a e = (refl, (cc))
-some_if false x a e = let z : ◌≡◌ {A = ℕ} 0 1 = cc in absurd (omega arith)
-
+-- what two tests that gave something tell
 some_both : (s t : Bool) (x a : firm.Answer) → cond s (cond t (Some x) None) None ≡ Some a → (s ≡ true) × (t ≡ true) × (x ≡ a)
 some_both true true x a e = (refl, refl, (cc))
 some_both true false x a e = let z : ◌≡◌ {A = ℕ} 0 1 = cc in absurd (omega arith)
@@ -124,11 +121,11 @@ lines_row k bs b e l =
 
 read_of : (f : Kind) (k : ℕ) (bs : List ℕ) (a : firm.Answer) → Bytes bs → get_or bs 0 0 ≡ k → Right k f → answer_by f bs ≡ Some a → (carries a ≡ true) × (bytes_of_answer a ≡ bs)
 read_of (one f) k bs a b e r g =
-    let s = some_if (eqb (length bs) 9) (f (field_at 1 bs)) a g in
+    let s = cond_some (eqb (length bs) 9) (f (field_at 1 bs)) a g in
     let q = r (field_at 1 bs) in
     at_answer bs (f (field_at 1 bs)) a s.1 (q.0 ∙ carried 1 bs b) (q.1 ∙ fields_row 1 k bs b e (eqb-true (length bs) 9 s.0))
 read_of (two f) k bs a b e r g =
-    let s = some_if (eqb (length bs) 17) (f (field_at 1 bs) (field_at 9 bs)) a g in
+    let s = cond_some (eqb (length bs) 17) (f (field_at 1 bs) (field_at 9 bs)) a g in
     let q = r (field_at 1 bs) (field_at 9 bs) in
     at_answer bs (f (field_at 1 bs) (field_at 9 bs)) a s.1 (q.0 ∙ and_from _ _ (carried 1 bs b) (carried 9 bs b)) (q.1 ∙ fields_row 2 k bs b e (eqb-true (length bs) 17 s.0))
 read_of (refusal f) k bs a b e r g =
@@ -136,7 +133,7 @@ read_of (refusal f) k bs a b e r g =
     let q = r (field_at 1 bs) (field_at 9 bs) in
     at_answer bs (f (field_at 1 bs) (field_at 9 bs)) a s.2 (q.0 ∙ and_from _ _ s.0 (carried 9 bs b)) (q.1 ∙ fields_row 2 k bs b e (eqb-true (length bs) 17 s.1))
 read_of (lines f) k bs a b e r g =
-    let s = some_if (eqb (length bs) (9 + 32 * field_at 1 bs)) (f (field_at 1 bs) (drop 9 bs)) a g in
+    let s = cond_some (eqb (length bs) (9 + 32 * field_at 1 bs)) (f (field_at 1 bs) (drop 9 bs)) a g in
     let l : length bs ≡ 9 + 32 * field_at 1 bs = eqb-true (length bs) (9 + 32 * field_at 1 bs) s.0 in
     let q = r (field_at 1 bs) (drop 9 bs) (bytes_drop 9 bs b) (carried 1 bs b) (length-drop 9 bs ∙ omega arith) in
     at_answer bs (f (field_at 1 bs) (drop 9 bs)) a s.1 q.0 (q.1 ∙ lines_row k bs b e (omega arith))

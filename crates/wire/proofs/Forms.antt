@@ -3,8 +3,8 @@ use Rattle.std.proofs.Common.{◌≡◌, ℕ, zero, suc, ◌+◌, ◌*◌, ◌<�
 use Rattle.std.specs.List.{flat_map}
 use Rattle.std.proofs.lemmas.List.{take_all, drop_more, drop-drop}
 use Rattle.std.proofs.lemmas.Bool.{lt-ltb, and_from}
-use Rattle.fields.specs.Bytes.{Bytes, field_bytes, field_at, all_fields}
-use Rattle.fields.proofs.Numbers.{field_back, field_lt, fields_from, fields_back, bytes_drop}
+use Rattle.fields.specs.Bytes.{Bytes, field_bytes, field_at, all_fields, fields_from}
+use Rattle.fields.proofs.Numbers.{field_back, field_lt, fields_back, bytes_drop}
 use Rattle.firm.specs.Stock.{Part}
 use Rattle.firm.specs.Calls.{field, readable, readable_parts, call_number}
 use Rattle.wire.specs.Rows.{rows, part_in, part_bytes}

@@ -9,3 +9,4 @@ pub mod ReadBack
 pub mod RecipeBytes
 pub mod RowLaws
 pub mod Tables
+pub mod FirstBytes

@@ -1,10 +1,10 @@
 -- A recipe's bytes. Assumes nothing.
-use Rattle.std.proofs.Common.{◌≡◌, ℕ, suc, ◌+◌, ◌*◌, ◌/◌, ◌%◌, ◌<◌, ◌≤◌, true, cond, eqb, List, [], ◌∷◌, ◌++◌, length, get_or, drop, set, Some, None, Option, sym, refl, ap, ◌∙◌, append_assoc, arith, length-append, length-drop}
+use Rattle.std.proofs.Common.{◌≡◌, ℕ, suc, ◌+◌, ◌*◌, ◌/◌, ◌%◌, ◌<◌, ◌≤◌, true, cond, eqb, List, [], ◌∷◌, ◌++◌, length, get_or, drop, set, Some, None, Option, sym, ap, ◌∙◌, append_assoc, arith, length-append, length-drop}
 use Rattle.std.proofs.lemmas.Bool.{cond-true, eq-eqb, lt-ltb, and_from}
 use Rattle.fields.specs.Bytes.{field_at}
 use Rattle.firm.specs.Calls.{Call, made_of, garbled}
 use Rattle.wire.specs.Rows.{rows, part_in}
-use Rattle.wire.specs.Calls.{call_as, call_of, or_garbled}
+use Rattle.wire.specs.Calls.{call_as, or_garbled}
 use Rattle.wire.specs.Calls.{bytes_of_call}
 use Rattle.wire.specs.Said.{parts_in, are_parts}
 use Rattle.std.specs.List.{flat_map}
@@ -17,11 +17,6 @@ use Rattle.std.proofs.lemmas.List.{append-nil}
 use Rattle.wire.specs.Rows.{part_bytes}
 use Rattle.wire.proofs.RowLaws.{length_rows, parts_again}
 use Rattle.wire.proofs.Heads.{head_put}
-
-pub no_bytes : (bs : List ℕ) → length bs ≡ 0 → garbled 0 ≡ call_of bs
-unfolding call_of
-no_bytes [] h = refl
-no_bytes (b ∷ bs) h = absurd (omega arith)
 
 pub parts_are : (bs : List ℕ) (n : ℕ) → length bs ≡ 16 * n → n < 256 → are_parts bs ≡ true
 parts_are bs n l h = and_from _ _ (eq-eqb (length bs % 16) 0 (omega arith)) (lt-ltb (length bs / 16) 256 (omega arith))

@@ -5,7 +5,28 @@ use Rattle.firm.specs.Calls as firm
 use Rattle.wire.specs.declared.lines.RecipePart.{RecipePart}
 use Rattle.wire.specs.declared.call.Call.{Call}
 use Rattle.wire.specs.declared.call.Call.TheVariants.{Buys, Sells, Comes, Goes, BilledBy, Bills, PaysOut, PaysIn, MadeOf, Makes, Counted, StockOf, Account, Order, LotsOf, EntriesFrom}
+use Rattle.wire.specs.declared.call_kind.CallKind.{CallKind}
+use Rattle.wire.specs.declared.call_kind.CallKind.TheVariants as kind
 use Rattle.wire.specs.Rows.{rows, part_in}
+
+-- THE CALLS' NUMBERS
+abbrev pub kind_number : CallKind → ℕ
+kind_number kind.Buys = 0
+kind_number kind.Sells = 1
+kind_number kind.Comes = 2
+kind_number kind.Goes = 3
+kind_number kind.BilledBy = 4
+kind_number kind.Bills = 5
+kind_number kind.PaysOut = 6
+kind_number kind.PaysIn = 7
+kind_number kind.MadeOf = 8
+kind_number kind.Makes = 9
+kind_number kind.Counted = 10
+kind_number kind.StockOf = 11
+kind_number kind.Account = 12
+kind_number kind.Order = 13
+kind_number kind.LotsOf = 14
+kind_number kind.EntriesFrom = 15
 
 -- the whole parts that bytes hold
 unfoldable pub parts_in : List ℕ → List Part

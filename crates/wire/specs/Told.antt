@@ -5,6 +5,8 @@ use Rattle.firm.specs.Ledger.{Entry}
 use Rattle.firm.specs.Calls as firm
 use Rattle.wire.specs.declared.refusal.Refusal.{Refusal}
 use Rattle.wire.specs.declared.refusal.Refusal.TheVariants.{Unreadable, BadField, NoRoom, NoSuchOrder, OtherKind, TooMany, NotOnHand, NoRecipe, OverLimits}
+use Rattle.wire.specs.declared.answer_kind.AnswerKind.{AnswerKind}
+use Rattle.wire.specs.declared.answer_kind.AnswerKind.TheVariants as kind
 use Rattle.wire.specs.declared.lines.LotLine.{LotLine}
 use Rattle.wire.specs.declared.lines.EntryLine.{EntryLine}
 use Rattle.wire.specs.declared.answer.Answer.{Answer}
@@ -23,6 +25,14 @@ refusal_number TooMany = 6
 refusal_number NotOnHand = 7
 refusal_number NoRecipe = 8
 refusal_number OverLimits = 9
+
+-- THE ANSWERS' KINDS
+abbrev pub answer_number : AnswerKind → ℕ
+answer_number kind.Refused = 0
+answer_number kind.Number = 1
+answer_number kind.Two = 2
+answer_number kind.Lots = 3
+answer_number kind.Entries = 4
 
 -- which lot of the meaning, and which entry, a line is
 abbrev pub lot_told : LotLine → Lot

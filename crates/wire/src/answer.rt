@@ -1,7 +1,7 @@
 use crate::Refusal;
 
 /// What a call is answered. Lots and entries are the bytes of their lines.
-#[derive(Clone, Copy)]
+#[derive(Clone, Copy, PartialEq, Eq, Debug)]
 pub enum Answer<'a> {
     /// A refusal, and the place that it names.
     Refused(Refusal, u64),

@@ -2,61 +2,51 @@ ghost use Rattle.std.specs.Prelude.{◌≡◌, ◌+◌, ◌*◌, length, drop, i
 ghost use Rattle.std.specs.Option.{option_map};
 ghost use Rattle.fields.specs.Bytes.{field_at};
 ghost use Rattle.wire.specs.Answers.{answer_as, answer_of};
-ghost use Rattle.wire.specs.Rows.{nth};
-ghost use Rattle.wire.specs.Told.{answered, lots_in, entries_in, lot_told, entry_told};
+ghost use Rattle.wire.specs.Told.{answered, answer_number, lots_in, entries_in};
 
-use crate::{Answer, EntryLine, LotLine, refusal_numbered};
-use fields::{ONE_FIELD, ROW_OF_FOUR, first_field, four_in_row, one_field, two_fields};
+use crate::{Answer, AnswerKind, Refusal};
+use fields::{ONE_FIELD, ROW_OF_FOUR, fields, first_field};
 
 // The bytes behind a count, if they are so many lines.
 fn lines_of(bytes: &[u8]) -> Option<&[u8]>
     ensures { option_map (λ x. x.now) result ≡ (if nat_eq (length bytes.now) (9 + 32 * field_at 1 bytes.now) then Some (drop 9 bytes.now) else None) }
 {
-    let Ok(count) = first_field(bytes) else {
-        return None;
-    };
-    let rest = bytes.len() - ONE_FIELD;
-    if rest % ROW_OF_FOUR != 0 {
+    let count = first_field(bytes).ok()?;
+    let lines = &bytes[ONE_FIELD..];
+    if lines.len() % ROW_OF_FOUR != 0 {
         return None;
     }
-    if (rest / ROW_OF_FOUR) as u64 != count {
+    if (lines.len() / ROW_OF_FOUR) as u64 != count {
         return None;
     }
-    Some(&bytes[ONE_FIELD..])
+    Some(lines)
 }
 
-fn read_answer_as(kind: u8, bytes: &[u8]) -> Option<Answer<'_>>
-    ensures { answered result ≡ answer_as kind bytes.now }
+fn read_answer_as(kind: AnswerKind, bytes: &[u8]) -> Option<Answer<'_>>
+    ensures { answered result ≡ answer_as (answer_number kind) bytes.now }
 {
     match kind {
-        0 => {
-            let Ok((number, place)) = two_fields(bytes) else {
-                return None;
-            };
-            let refusal = refusal_numbered(number)?;
+        AnswerKind::Refused => {
+            let [number, place] = fields::<2>(bytes).ok()?;
+            let refusal = Refusal::try_from(number).ok()?;
             Some(Answer::Refused(refusal, place))
         }
-        1 => {
-            let Ok(n) = one_field(bytes) else {
-                return None;
-            };
+        AnswerKind::Number => {
+            let [n] = fields::<1>(bytes).ok()?;
             Some(Answer::Number(n))
         }
-        2 => {
-            let Ok((a, b)) = two_fields(bytes) else {
-                return None;
-            };
+        AnswerKind::Two => {
+            let [a, b] = fields::<2>(bytes).ok()?;
             Some(Answer::Two(a, b))
         }
-        3 => {
+        AnswerKind::Lots => {
             let lines = lines_of(bytes)?;
             Some(Answer::Lots(lines))
         }
-        4 => {
+        AnswerKind::Entries => {
             let lines = lines_of(bytes)?;
             Some(Answer::Entries(lines))
         }
-        _ => None,
     }
 }
 
@@ -64,10 +54,9 @@ fn read_answer_as(kind: u8, bytes: &[u8]) -> Option<Answer<'_>>
 pub fn read_answer(bytes: &[u8]) -> Option<Answer<'_>>
     ensures { answered result ≡ answer_of bytes.now }
 {
-    if bytes.len() == 0 {
-        return None;
-    }
-    read_answer_as(bytes[0], bytes)
+    let number = bytes.first()?;
+    let kind = AnswerKind::try_from(*number).ok()?;
+    read_answer_as(kind, bytes)
 }
 
 /// How many lots, or entries, the bytes of their lines hold.
@@ -76,30 +65,4 @@ pub fn line_count(lines: &[u8]) -> usize
     ensures entries { result ≡ length (entries_in lines.now) }
 {
     lines.len() / ROW_OF_FOUR
-}
-
-/// The k-th lot in the bytes of lots.
-pub fn lot(lines: &[u8], k: usize) -> Option<LotLine>
-    ensures { option_map lot_told result ≡ nth (lots_in lines.now) k }
-{
-    let (item, pieces, cost, document) = four_in_row(lines, k)?;
-    Some(LotLine {
-        item,
-        pieces,
-        cost,
-        document,
-    })
-}
-
-/// The k-th entry in the bytes of entries.
-pub fn entry(lines: &[u8], k: usize) -> Option<EntryLine>
-    ensures { option_map entry_told result ≡ nth (entries_in lines.now) k }
-{
-    let (left, right, amount, document) = four_in_row(lines, k)?;
-    Some(EntryLine {
-        left,
-        right,
-        amount,
-        document,
-    })
 }

@@ -1,5 +1,5 @@
 /// What people enter and ask. A call's number is its place in this list.
-#[derive(Clone, Copy)]
+#[derive(Clone, Copy, PartialEq, Eq, Debug)]
 pub enum Call<'a> {
     /// An order to buy: item, pieces, price each.
     Buys(u64, u64, u64),

@@ -1,55 +1,39 @@
 ghost use Rattle.std.specs.Prelude.{◌≡◌};
 ghost use Rattle.wire.specs.Calls.{call_as, call_of};
-ghost use Rattle.wire.specs.Said.{heard};
+ghost use Rattle.wire.specs.Said.{heard, kind_number};
 
-use crate::Call;
 use crate::recipe::read_recipe;
-use fields::{one_field, three_fields, two_fields};
+use crate::{Call, CallKind};
+use fields::fields;
 
-// A call of so many fields, if they are the whole row.
-macro_rules! one {
-    ($call:path, $bytes:expr) => {{
-        let a = one_field($bytes)?;
-        Ok($call(a))
+// A call of so many fields, if they are the whole row. A closure would be plainer, but `map` tells nothing of one that takes an array.
+macro_rules! call {
+    ($call:path, $count:literal, [$($field:ident),+], $bytes:expr) => {{
+        let [$($field),+] = fields::<$count>($bytes)?;
+        Ok($call($($field),+))
     }};
 }
 
-macro_rules! two {
-    ($call:path, $bytes:expr) => {{
-        let (a, b) = two_fields($bytes)?;
-        Ok($call(a, b))
-    }};
-}
-
-macro_rules! three {
-    ($call:path, $bytes:expr) => {{
-        let (a, b, c) = three_fields($bytes)?;
-        Ok($call(a, b, c))
-    }};
-}
-
-// Adding a call adds an arm.
-fn read_as(number: u8, bytes: &[u8]) -> Result<Call<'_>, usize>
-    ensures { heard result ≡ call_as number bytes.now }
+fn read_as(kind: CallKind, bytes: &[u8]) -> Result<Call<'_>, usize>
+    ensures { heard result ≡ call_as (kind_number kind) bytes.now }
 {
-    match number {
-        0 => three!(Call::Buys, bytes),
-        1 => three!(Call::Sells, bytes),
-        2 => two!(Call::Comes, bytes),
-        3 => two!(Call::Goes, bytes),
-        4 => three!(Call::BilledBy, bytes),
-        5 => two!(Call::Bills, bytes),
-        6 => one!(Call::PaysOut, bytes),
-        7 => one!(Call::PaysIn, bytes),
-        8 => read_recipe(bytes),
-        9 => two!(Call::Makes, bytes),
-        10 => two!(Call::Counted, bytes),
-        11 => one!(Call::StockOf, bytes),
-        12 => one!(Call::Account, bytes),
-        13 => one!(Call::Order, bytes),
-        14 => one!(Call::LotsOf, bytes),
-        15 => two!(Call::EntriesFrom, bytes),
-        _ => Err(0),
+    match kind {
+        CallKind::Buys => call!(Call::Buys, 3, [item, pieces, price], bytes),
+        CallKind::Sells => call!(Call::Sells, 3, [item, pieces, price], bytes),
+        CallKind::Comes => call!(Call::Comes, 2, [order, pieces], bytes),
+        CallKind::Goes => call!(Call::Goes, 2, [order, pieces], bytes),
+        CallKind::BilledBy => call!(Call::BilledBy, 3, [order, pieces, sum], bytes),
+        CallKind::Bills => call!(Call::Bills, 2, [order, pieces], bytes),
+        CallKind::PaysOut => call!(Call::PaysOut, 1, [amount], bytes),
+        CallKind::PaysIn => call!(Call::PaysIn, 1, [amount], bytes),
+        CallKind::MadeOf => read_recipe(bytes),
+        CallKind::Makes => call!(Call::Makes, 2, [item, pieces], bytes),
+        CallKind::Counted => call!(Call::Counted, 2, [item, pieces], bytes),
+        CallKind::StockOf => call!(Call::StockOf, 1, [item], bytes),
+        CallKind::Account => call!(Call::Account, 1, [account], bytes),
+        CallKind::Order => call!(Call::Order, 1, [order], bytes),
+        CallKind::LotsOf => call!(Call::LotsOf, 1, [item], bytes),
+        CallKind::EntriesFrom => call!(Call::EntriesFrom, 2, [first, count], bytes),
     }
 }
 
@@ -57,8 +41,11 @@ fn read_as(number: u8, bytes: &[u8]) -> Result<Call<'_>, usize>
 pub fn read(bytes: &[u8]) -> Result<Call<'_>, usize>
     ensures { heard result ≡ call_of bytes.now }
 {
-    if bytes.len() == 0 {
+    let Some(number) = bytes.first() else {
         return Err(0);
-    }
-    read_as(bytes[0], bytes)
+    };
+    let Ok(kind) = CallKind::try_from(*number) else {
+        return Err(0);
+    };
+    read_as(kind, bytes)
 }

@@ -10,30 +10,36 @@
 #![tactic(auto)]
 
 mod answer;
+mod answer_kind;
 mod answer_reading;
 mod answer_writing;
 mod call;
+mod call_kind;
 mod call_reading;
 mod call_writing;
 mod laws;
+mod line;
 mod lines;
 mod recipe;
 mod refusal;
-mod refusal_numbers;
+mod row;
+mod unknown_number;
 
 pub use answer::Answer;
-pub use answer_reading::{entry, line_count, lot, read_answer};
-pub use answer_writing::{
-    begin_entries, begin_lots, put_entry, put_lot, write, write_number, write_refusal, write_two,
-};
+pub use answer_kind::AnswerKind;
+pub use answer_reading::{line_count, read_answer};
+pub use answer_writing::{write, write_number, write_refusal, write_two};
 pub use call::Call;
+pub use call_kind::CallKind;
 pub use call_reading::read;
 pub use call_writing::write_call;
 pub use laws::{
     answer_comes_back_stands, answer_is_bytes_stands, answers_fit_stands, call_comes_back_stands,
     calls_apart_stands, lists_compose_stands, one_reading_stands,
 };
+pub use line::Line;
 pub use lines::{EntryLine, LotLine, RecipePart};
-pub use recipe::{MOST_PARTS, RECIPE_HEAD, part, part_count};
+pub use recipe::{MOST_PARTS, RECIPE_HEAD, part_count};
 pub use refusal::Refusal;
-pub use refusal_numbers::{refusal_number, refusal_numbered};
+pub use row::Row;
+pub use unknown_number::UnknownNumber;

@@ -1,13 +1,12 @@
 ghost use Rattle.std.specs.Prelude.{◌≡◌, length, if◌then◌else◌};
-ghost use Rattle.std.specs.Option.{option_map};
 ghost use Rattle.fields.specs.Written.{wrote, row_written};
 ghost use Rattle.firm.specs.Calls.{made_of, garbled};
 ghost use Rattle.wire.specs.Calls.{call_as, bytes_of_call};
-ghost use Rattle.wire.specs.Rows.{nth};
-ghost use Rattle.wire.specs.Said.{heard, are_parts, parts_in, part_said};
+ghost use Rattle.wire.specs.Said.{heard, are_parts, parts_in};
 
-use crate::{Call, RecipePart};
-use fields::{ONE_FIELD, ROW_OF_TWO, first_field, put_one, two_in_row};
+use crate::call_writing::put;
+use crate::{Call, CallKind};
+use fields::{ONE_FIELD, ROW_OF_TWO, first_field};
 
 /// The bytes before a recipe's parts: number, item, count.
 pub const RECIPE_HEAD: usize = 10;
@@ -43,7 +42,7 @@ pub(crate) fn write_recipe(item: u64, parts: &[u8], out: &mut [u8]) -> Option<us
     if out.len() < size {
         return None;
     }
-    put_one(out, 8, item)?;
+    put(out, CallKind::MadeOf, [item])?;
     out[ONE_FIELD] = count as u8;
     out[RECIPE_HEAD..size].copy_from_slice(parts);
     Some(size)
@@ -54,12 +53,4 @@ pub fn part_count(bytes: &[u8]) -> usize
     ensures { result ≡ length (parts_in bytes.now) }
 {
     bytes.len() / ROW_OF_TWO
-}
-
-/// The k-th part in the bytes of a recipe's parts.
-pub fn part(parts: &[u8], k: usize) -> Option<RecipePart>
-    ensures { option_map part_said result ≡ nth (parts_in parts.now) k }
-{
-    let (item, each) = two_in_row(parts, k)?;
-    Some(RecipePart { item, each })
 }

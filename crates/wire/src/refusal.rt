@@ -1,5 +1,12 @@
+ghost use Rattle.std.specs.Prelude.{◌≡◌};
+ghost use Rattle.wire.specs.Answers.{is_refusal};
+ghost use Rattle.wire.specs.Numbers.{Numbered};
+ghost use Rattle.wire.specs.Told.{refusal_number};
+
+use crate::UnknownNumber;
+
 /// Why a call is turned away, by its number. Later ones come at the end.
-#[derive(Clone, Copy)]
+#[derive(Clone, Copy, PartialEq, Eq, Debug)]
 pub enum Refusal {
     /// Bytes that are no call.
     Unreadable = 1,
@@ -19,4 +26,33 @@ pub enum Refusal {
     NoRecipe,
     /// More than the limits afterwards.
     OverLimits,
+}
+
+impl From<Refusal> for u64 {
+    ghost from_gives = { λ refusal n. n ≡ refusal_number refusal };
+
+    fn from(refusal: Refusal) -> u64 {
+        refusal as u64
+    }
+}
+
+impl TryFrom<u64> for Refusal {
+    type Error = UnknownNumber;
+
+    ghost try_from_gives = { λ n r. Numbered refusal_number (is_refusal n) n r };
+
+    fn try_from(number: u64) -> Result<Refusal, UnknownNumber> {
+        match number {
+            1 => Ok(Refusal::Unreadable),
+            2 => Ok(Refusal::BadField),
+            3 => Ok(Refusal::NoRoom),
+            4 => Ok(Refusal::NoSuchOrder),
+            5 => Ok(Refusal::OtherKind),
+            6 => Ok(Refusal::TooMany),
+            7 => Ok(Refusal::NotOnHand),
+            8 => Ok(Refusal::NoRecipe),
+            9 => Ok(Refusal::OverLimits),
+            _ => Err(UnknownNumber),
+        }
+    }
 }

@@ -1,6 +1,6 @@
 use std::process::Abort;
 use std::test::Fail;
-use wire::{Call, part, part_count, read, write_call};
+use wire::{Call, CallKind, RecipePart, Row, part_count, read, write_call};
 
 // How many bytes a call has, by its number; the recipe has two parts.
 const SIZES: [usize; 16] = [25, 25, 17, 17, 25, 17, 9, 9, 42, 17, 17, 9, 9, 9, 9, 17];
@@ -9,26 +9,16 @@ const LONGEST: usize = 43;
 
 // The place where a row ceases to be a call, if it is none.
 fn place(bytes: &[u8]) -> Option<usize> {
-    match read(bytes) {
-        Ok(_) => None,
-        Err(n) => Some(n),
-    }
+    read(bytes).err()
 }
 
 #[test]
 fn every_call_at_every_length(rt: HostRuntime) {
-    for k in 0..16u8 {
+    for (k, size) in (0..16u8).zip(SIZES) {
         let mut row = [2u8; LONGEST];
         row[0] = k;
-        let size = SIZES[k as usize];
         for n in 0..LONGEST {
-            let expected = if n < size {
-                Some(n)
-            } else if n == size {
-                None
-            } else {
-                Some(size)
-            };
+            let expected = (n != size).then_some(n.min(size));
             assert_eq!(rt; place(&row[0..n]), expected);
         }
     }
@@ -41,6 +31,16 @@ fn unknown_numbers(rt: HostRuntime) {
         row[0] = k;
         assert_eq!(rt; place(&row), Some(0));
     }
+}
+
+#[test]
+fn numbers_of_kinds(rt: HostRuntime) -> Result<(), Fail> {
+    assert!(rt; CallKind::try_from(16).is_err());
+    for n in 0..16u8 {
+        let kind = CallKind::try_from(n).ok().ok_or("no kind")?;
+        assert_eq!(rt; u8::from(kind), n);
+    }
+    Ok(())
 }
 
 #[test]
@@ -71,10 +71,9 @@ fn parts_of_a_recipe(rt: HostRuntime) -> Result<(), Fail> {
     };
     assert_eq!(rt; item, 3);
     assert_eq!(rt; part_count(parts), 2);
-    let second = part(parts, 1).ok_or("no second part")?;
-    assert_eq!(rt; second.item, 6);
-    assert_eq!(rt; second.each, 7);
-    assert!(rt; part(parts, 2).is_none());
+    let second = RecipePart::nth(parts, 1).ok_or("no second part")?;
+    assert_eq!(rt; second, RecipePart { item: 6, each: 7 });
+    assert!(rt; RecipePart::nth(parts, 2).is_none());
     Ok(())
 }
 
@@ -93,10 +92,9 @@ fn written_again(rt: &impl Abort, row: &[u8]) -> Result<(), Fail> {
 
 #[test]
 fn every_call_written_again(rt: HostRuntime) -> Result<(), Fail> {
-    for k in 0..16u8 {
+    for (k, size) in (0..16u8).zip(SIZES) {
         let mut row = [2u8; LONGEST];
         row[0] = k;
-        let size = SIZES[k as usize];
         assert!(rt; size <= LONGEST);
         written_again(&rt, &row[0..size])?;
     }

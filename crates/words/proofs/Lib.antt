@@ -1,4 +1,3 @@
-mod DigitSteps
 mod NumberSteps
 mod SpanSteps
 pub mod ReadBack

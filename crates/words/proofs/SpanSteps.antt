@@ -1,48 +1,35 @@
--- The steps of the loops over blanks and over a word's bytes. Assumes nothing.
-use Rattle.std.proofs.Common.{◌≡◌, ℕ, ◌+◌, ◌<◌, ◌≤◌, true, false, cond, List, [], ◌∷◌, ◌++◌, length, get_or, take, drop, sym, ap, ◌∙◌, append_assoc, append-nil}
-use Rattle.std.proofs.lemmas.List.{at_drop_more, at_drop_all, take_more, drop_all}
-use Rattle.std.proofs.lemmas.Bool.{cond-true, cond-false}
+-- Blanks and words in front, by how many bytes they are. Assumes nothing.
+use Rattle.std.proofs.Common.{◌≡◌, ℕ, suc, ◌+◌, Bool, true, false, not, cond, List, [], ◌∷◌, take, drop, refl, ap, ◌∙◌, arith}
+use Rattle.std.specs.List.{prefix_len}
 use Rattle.words.specs.Words.{blank, gap, trimmed, word, past}
 
--- BLANKS: the byte at i is one more, or the first that is none
-at_blank : (s : List ℕ) (i : ℕ) → i < length s → trimmed (drop i s) ≡ cond (blank (get_or s i 0)) (trimmed (drop (i + 1) s)) (get_or s i 0 ∷ drop (i + 1) s)
-at_blank s i h = at_drop_more trimmed s i 0 h
+one_more : (n : ℕ) → 1 + n ≡ suc n
+one_more n = omega arith
 
-pub trim_more : (s : List ℕ) (i : ℕ) → i < length s → blank (get_or s i 0) ≡ true → trimmed (drop (i + 1) s) ≡ trimmed (drop i s)
-trim_more s i h e = sym (at_blank s i h ∙ cond-true _ _ _ e)
+-- the first byte is one of those in front, or the first that is none
+trimmed_if : (b : Bool) (c n : ℕ) (cs : List ℕ) → drop n cs ≡ trimmed cs → drop (cond b (1 + n) 0) (c ∷ cs) ≡ cond b (trimmed cs) (c ∷ cs)
+trimmed_if true c n cs h = ap (λ (k : ℕ). drop k (c ∷ cs)) (one_more n) ∙ h
+trimmed_if false c n cs h = refl
 
-pub trim_stop : (s : List ℕ) (i : ℕ) → i < length s → blank (get_or s i 0) ≡ false → trimmed (drop i s) ≡ drop i s
-trim_stop s i h e = at_blank s i h ∙ cond-false _ _ _ e ∙ sym (at_drop_more (λ (x : List ℕ). x) s i 0 h)
+pub trimmed_is : (s : List ℕ) → drop (prefix_len blank s) s ≡ trimmed s
+trimmed_is [] = refl
+trimmed_is (c ∷ cs) = trimmed_if (blank c) c (prefix_len blank cs) cs (trimmed_is cs)
 
-pub trim_all : (s : List ℕ) (i : ℕ) → length s ≤ i → trimmed (drop i s) ≡ drop i s
-trim_all s i h = at_drop_all trimmed s i h ∙ sym (drop_all i s h)
+abbrev pub inner : ℕ → Bool
+inner c = not (gap c)
 
--- A WORD: the byte at i belongs to it, or it ends there
-at_word : (s : List ℕ) (i : ℕ) → i < length s → word (drop i s) ≡ cond (gap (get_or s i 0)) [] (get_or s i 0 ∷ word (drop (i + 1) s))
-at_word s i h = at_drop_more word s i 0 h
+word_if : (b : Bool) (c n : ℕ) (cs : List ℕ) → take n cs ≡ word cs → take (cond (not b) (1 + n) 0) (c ∷ cs) ≡ cond b [] (c ∷ word cs)
+word_if true c n cs h = refl
+word_if false c n cs h = ap (λ (k : ℕ). take k (c ∷ cs)) (one_more n) ∙ ap (λ (x : List ℕ). c ∷ x) h
 
-at_past : (s : List ℕ) (i : ℕ) → i < length s → past (drop i s) ≡ cond (gap (get_or s i 0)) (get_or s i 0 ∷ drop (i + 1) s) (past (drop (i + 1) s))
-at_past s i h = at_drop_more past s i 0 h
+pub word_is : (s : List ℕ) → take (prefix_len inner s) s ≡ word s
+word_is [] = refl
+word_is (c ∷ cs) = word_if (gap c) c (prefix_len inner cs) cs (word_is cs)
 
-pub word_more : (s : List ℕ) (i : ℕ) → i < length s → gap (get_or s i 0) ≡ false → take (i + 1) s ++ word (drop (i + 1) s) ≡ take i s ++ word (drop i s)
-word_more s i h e =
-    ap (λ (x : List ℕ). x ++ word (drop (i + 1) s)) (take_more s i 0 h) ∙ append_assoc (take i s) (get_or s i 0 ∷ []) (word (drop (i + 1) s))
-    ∙ ap (λ (x : List ℕ). take i s ++ x) (sym (at_word s i h ∙ cond-false _ _ _ e))
+past_if : (b : Bool) (c n : ℕ) (cs : List ℕ) → drop n cs ≡ past cs → drop (cond (not b) (1 + n) 0) (c ∷ cs) ≡ cond b (c ∷ cs) (past cs)
+past_if true c n cs h = refl
+past_if false c n cs h = ap (λ (k : ℕ). drop k (c ∷ cs)) (one_more n) ∙ h
 
-pub past_more : (s : List ℕ) (i : ℕ) → i < length s → gap (get_or s i 0) ≡ false → past (drop (i + 1) s) ≡ past (drop i s)
-past_more s i h e = sym (at_past s i h ∙ cond-false _ _ _ e)
-
-pub word_stop : (s : List ℕ) (i : ℕ) → i < length s → gap (get_or s i 0) ≡ true → word (drop i s) ≡ []
-word_stop s i h e = at_word s i h ∙ cond-true _ _ _ e
-
-pub past_stop : (s : List ℕ) (i : ℕ) → i < length s → gap (get_or s i 0) ≡ true → past (drop i s) ≡ drop i s
-past_stop s i h e = at_past s i h ∙ cond-true _ _ _ e ∙ sym (at_drop_more (λ (x : List ℕ). x) s i 0 h)
-
-pub word_end : (s : List ℕ) (i : ℕ) → length s ≤ i → word (drop i s) ≡ []
-word_end s i h = at_drop_all word s i h
-
-pub past_end : (s : List ℕ) (i : ℕ) → length s ≤ i → past (drop i s) ≡ drop i s
-past_end s i h = at_drop_all past s i h ∙ sym (drop_all i s h)
-
-pub word_taken : (s w p : List ℕ) (i : ℕ) → take i s ++ w ≡ p → w ≡ [] → take i s ≡ p
-word_taken s w p i e n = sym (append-nil (take i s)) ∙ ap (λ (x : List ℕ). take i s ++ x) (sym n) ∙ e
+pub past_is : (s : List ℕ) → drop (prefix_len inner s) s ≡ past s
+past_is [] = refl
+past_is (c ∷ cs) = past_if (gap c) c (prefix_len inner cs) cs (past_is cs)

@@ -1,3 +1,4 @@
 pub mod Words
 pub mod Numerals
 pub mod Readers
+pub mod Spaced

@@ -4,8 +4,8 @@ use Rattle.answer_lines.proofs.quads.put_others.Goals as goal
 
 pub loop-quad-preserved : goal.loop-quad-preserved
 loop-quad-preserved c =
-    quads_more (vec_items c.loop-quad.out) (vec_items c.extend_from_slice.new.self) (vec_items c.put_quad.new.out) c.loop-quad.rest.now c.in-Some.quad
-    c.in-Some.ensures c.in_ok-extend_from_slice.ensures.items c.in_ok-put_quad.ensures
+    quads_more (vec_items c.loop-quad.out) (vec_items c.extend_from_slice.new.self) (vec_items c.put_numbers.new.out) c.loop-quad.rest.now c.in-Some.quad
+    c.in-Some.ensures c.in_ok-extend_from_slice.ensures.items c.in_ok-put_numbers.ensures
     ∙ c.loop-quad.invariant
 
 pub returns : goal.returns

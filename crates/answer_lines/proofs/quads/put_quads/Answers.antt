@@ -7,5 +7,5 @@ returns-in_default c = quads_empty (vec_items c.args.out.now) (vec_items c.exten
 
 pub returns : goal.returns
 returns c =
-    quads_first (vec_items c.args.out.now) (vec_items c.put_quad.new.out) (vec_items c.put_others.new.out) c.args.lines.now c.in-Some.first
-    c.in-Some.ensures c.in_ok-put_quad.ensures c.in_ok-put_others.ensures
+    quads_first (vec_items c.args.out.now) (vec_items c.put_numbers.new.out) (vec_items c.put_others.new.out) c.args.lines.now c.in-Some.first
+    c.in-Some.ensures c.in_ok-put_numbers.ensures c.in_ok-put_others.ensures

@@ -1,30 +1,39 @@
-use Rattle.std.proofs.Common.{◌≡◌, ap, ◌∙◌, arith}
+use Rattle.std.proofs.Common.{ap, ◌∙◌, arith, rules}
 use Rattle.fields.specs.Written.{Written, line_put}
 use Rattle.firm.specs.Stock.{Lot}
-use Rattle.links.specs.declared.shape.Shape.{Shape}
-use Rattle.records.specs.State.{state}
+use Rattle.links.specs.Walk.{cells_left, cells_in}
+use Rattle.memory.specs.Lent.{seen}
 use Rattle.wire.specs.Rows.{lot_bytes}
 use Rattle.questions.specs.Listing.{lot_of}
-use Rattle.questions.proofs.Listed.{listed_begins, listed_turns, listed_stops, listed_ends}
+use Rattle.questions.proofs.Listed.{listed_begins, listed_turns, listed_ends, room_left}
 use Rattle.questions.proofs.listing.put_lots.Goals as goal
 
-pub loop-turn-init : goal.loop-turn-init
-loop-turn-init c = listed_begins c.args.limits c.args.item (state c.args.wide.now c.args.narrow.now) c.lot_rows-rows.result c.args.answer.now c.header-place.result c.lot_rows-rows.ensures c.header-place.ensures (omega (arith, c.requires))
+pub loop-cell-init : goal.loop-cell-init
+loop-cell-init c =
+    listed_begins c.args.view.limits c.args.item (seen c.args.view) c.args.answer.now _
+    (ap cells_left c.into_iter-cell-iterator.ensures.into_iter_gives ∙ c.cells_of-cell-items.ensures ∙ ap (λ h. cells_in h c.args.view.narrow.now c.args.item) c.lot_rows.ensures)
+    (omega (arith, c.requires))
 
-pub returns-in_default : goal.returns-in_default
-returns-in_default c =
-    let done = listed_stops c.args.limits c.args.item (state c.args.wide.now c.args.narrow.now) c.lot_rows-rows.result c.args.answer.now c.loop-turn.answer c.loop-turn._turn c.loop-turn.place c.loop-turn.count c.loop-turn.invariant c.in_default.ensures in
-    record { count = done.counted; few = omega (arith, c.loop-turn.invariant.few, ap (λ (h : Shape). h.cells) c.lot_rows-rows.ensures); lines = done.lines }
+pub overflow_add-count : goal.overflow_add-count
+overflow_add-count c =
+    let few = room_left c.args.view.limits c.args.item (seen c.args.view) c.args.answer.now c.loop-cell.answer c.loop-cell.yielded _ c.loop-cell.count c.in-Some.cell _ c.loop-cell.invariant c.in-Some.ensures.steps in
+    search rules
 
-pub loop-turn-preserved : goal.loop-turn-preserved
-loop-turn-preserved c =
-    let cells : c.lot_rows-rows.result.cells ≡ c.args.limits.lots = ap (λ (h : Shape). h.cells) c.lot_rows-rows.ensures in
-    listed_turns c.args.limits c.args.item (state c.args.wide.now c.args.narrow.now) c.lot_rows-rows.result c.args.answer.now c.loop-turn.answer c.put_lot.new.out c.loop-turn._turn c.loop-turn.place c.loop-turn.count c.in-Some.cell
-    c.loop-turn.invariant c.loop-turn-test.true c.in-Some.ensures (omega (arith, c.requires, c.loop-turn.invariant.few))
-    (ap (λ (w : Written). w.left) c.put_lot.ensures
-    ∙ ap (λ (x : Lot). (line_put c.loop-turn.count (lot_bytes x) c.loop-turn.answer).left) (c.line-lot.ensures ∙ ap lot_of c.lot_at.ensures))
+pub loop-cell-preserved : goal.loop-cell-preserved
+loop-cell-preserved c =
+    listed_turns c.args.view.limits c.args.item (seen c.args.view) c.args.answer.now c.loop-cell.answer c.put.new.out c.loop-cell.yielded _ c.loop-cell.count c.in-Some.cell _
+    c.loop-cell.invariant c.in-Some.ensures.steps c.requires
+    (ap (λ (w : Written). w.left) c.put.ensures
+    ∙ ap (λ (x : Lot). (line_put c.loop-cell.count (lot_bytes x) c.loop-cell.answer).left) (c.line.ensures ∙ ap lot_of c.lot.ensures))
 
-pub returns : goal.returns
-returns c =
-    let done = listed_ends c.args.limits c.args.item (state c.args.wide.now c.args.narrow.now) c.lot_rows-rows.result c.args.answer.now c.loop-turn.answer c.loop-turn._turn c.loop-turn.place c.loop-turn.count c.loop-turn.invariant c.loop-turn-test.false in
-    record { count = done.counted; few = omega (arith, c.loop-turn.invariant.few, ap (λ (h : Shape). h.cells) c.lot_rows-rows.ensures); lines = done.lines }
+pub returns-clause-count : goal.returns-clause-count
+returns-clause-count c =
+    (listed_ends c.args.view.limits c.args.item (seen c.args.view) c.args.answer.now c.loop-cell.answer c.loop-cell.yielded _ c.loop-cell.count c.loop-cell.invariant c.in-None.ensures.steps.0).counted
+
+pub returns-clause-few : goal.returns-clause-few
+returns-clause-few c =
+    (listed_ends c.args.view.limits c.args.item (seen c.args.view) c.args.answer.now c.loop-cell.answer c.loop-cell.yielded _ c.loop-cell.count c.loop-cell.invariant c.in-None.ensures.steps.0).few
+
+pub returns-clause-lines : goal.returns-clause-lines
+returns-clause-lines c =
+    (listed_ends c.args.view.limits c.args.item (seen c.args.view) c.args.answer.now c.loop-cell.answer c.loop-cell.yielded _ c.loop-cell.count c.loop-cell.invariant c.in-None.ensures.steps.0).lines

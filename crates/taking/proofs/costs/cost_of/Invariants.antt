@@ -1,9 +1,9 @@
-use Rattle.std.proofs.Common.{◌≡◌, ◌-◌}
-use Rattle.records.specs.State.{state}
-use Rattle.taking.specs.Takes.{cost_on}
+use Rattle.std.proofs.Common.{◌≡◌}
+use Rattle.links.specs.Walk.{cells_left}
+use Rattle.memory.specs.Lent.{seen}
+use Rattle.taking.proofs.Along.{cost_along}
+use Rattle.taking.specs.Takes.{cost_of}
 use Rattle.taking.proofs.costs.cost_of.Given as goal
 
-abbrev pub invariant-loop-turn : goal.invariant-loop-turn
-invariant-loop-turn l =
-    cost_on (l.limits.lots - l._turn) l.limits (state l.wide l.narrow) l.next l.left l.cost
-    ≡ cost_on l.limits.lots l.limits (state l.wide l.narrow) l.initial.next l.initial.left 0
+abbrev pub invariant-loop-cell : goal.invariant-loop-cell
+invariant-loop-cell l = cost_along l.view.limits (seen l.view) (cells_left l.cell-iterator) l.left l.cost ≡ cost_of l.view.limits l.fn.want (seen l.view)

@@ -3,12 +3,8 @@ use Rattle.std.specs.Fmt.{digits}
 use Rattle.answer_lines.specs.Shown.{shown}
 use Rattle.text.proofs.answering.put_misfit.Goals as goal
 
-pub returns : goal.returns
+pub returns-clause-done : goal.returns-clause-done
 unfolding shown digits
-returns c =
-    record {
-      done =
-          c.in_ok-put_number.ensures ∙ ap (λ x. x ++ decimal c.args.place) c.in_ok-extend_from_slice.ensures.items
-          ∙ append_assoc (vec_items c.args.out.now) (codes "refused 1 at ") (decimal c.args.place);
-      counted = c.refuse.ensures;
-    }
+returns-clause-done c =
+    c.in_ok-put_number.ensures ∙ ap (λ x. x ++ decimal c.args.place) c.in_ok-extend_from_slice.ensures.items
+    ∙ append_assoc (vec_items c.args.out.now) (codes "refused 1 at ") (decimal c.args.place)

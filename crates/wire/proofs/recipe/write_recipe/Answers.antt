@@ -8,11 +8,11 @@ pub returns-then-out-size : goal.returns-then-out-size
 returns-then-out-size c =
     recipe_too_long c.args.item (length c.args.parts.now / 16) c.args.parts.now c.args.out.now (λ i. omega (arith, c.type_inv.parts i)) (omega arith) (omega arith) (omega arith)
 
-pub returns-in_err-put_one : goal.returns-in_err-put_one
-returns-in_err-put_one c = absurd (head_goes_in 8 c.args.item c.args.out.now c.put_one.new.out (omega arith) c.in_err-put_one.ensures)
+pub returns-in_err-put : goal.returns-in_err-put
+returns-in_err-put c = absurd (head_goes_in 8 c.args.item c.args.out.now c.put.new.out (omega arith) c.in_err-put.ensures)
 
 pub returns : goal.returns
 returns c =
-    recipe_fits c.args.item (length c.args.parts.now / 16) (10 + length c.args.parts.now - 10) c.put_one.result c.args.parts.now c.args.out.now c.put_one.new.out _
-    (λ i. omega (arith, c.type_inv.parts i)) (omega arith) (omega arith) (omega arith) (omega arith) c.put_one.ensures
-    (ap (λ (xs : List ℕ). put_mid 10 (10 + length c.args.parts.now - 10) (set c.put_one.new.out 9 (length c.args.parts.now / 16)) xs) c.copy_from_slice.ensures.after)
+    recipe_fits c.args.item (length c.args.parts.now / 16) (10 + length c.args.parts.now - 10) c.put.result c.args.parts.now c.args.out.now c.put.new.out _
+    (λ i. omega (arith, c.type_inv.parts i)) (omega arith) (omega arith) (omega arith) (omega arith) c.put.ensures
+    (ap (λ (xs : List ℕ). put_mid 10 (10 + length c.args.parts.now - 10) (set c.put.new.out 9 (length c.args.parts.now / 16)) xs) c.copy_from_slice.ensures.after)

@@ -1,21 +1,16 @@
-use Rattle.std.proofs.Common.{◌-◌, sym, ◌∙◌, arith}
-use Rattle.links.specs.Area.{following_in}
-use Rattle.links.proofs.Steps.{on_more, on_none, on_here}
+use Rattle.std.proofs.Common.{sym, ap, ◌∙◌}
+use Rattle.std.proofs.lemmas.Iterator.Adapters.{option_map_id}
+use Rattle.std.proofs.lemmas.Iterator.Consumers.{nth_from_yields_List, YieldsList-from_first}
+use Rattle.links.specs.Area.{following_in, on_in}
+use Rattle.links.specs.Walk.{cells_left}
+use Rattle.links.proofs.Walk.{step_met}
 use Rattle.links.proofs.shape.Shape.nth.Goals as goal
-
-pub returns-in_default : goal.returns-in_default
-returns-in_default c =
-    sym (on_none c.args.self c.args.words.now (c.args.index - c.loop-step._step) (following_in c.args.self c.args.words.now c.loop-step.place) c.in_default.ensures)
-    ∙ c.loop-step.invariant
-
-pub loop-step-preserved : goal.loop-step-preserved
-loop-step-preserved c =
-    on_more c.args.self c.args.words.now c.args.index c.loop-step._step (following_in c.args.self c.args.words.now c.loop-step.place) c.in-Some.cell (omega arith)
-    c.in-Some.ensures
-    ∙ c.loop-step.invariant
 
 pub returns : goal.returns
 returns c =
-    c.following-2.ensures
-    ∙ sym (on_here c.args.self c.args.words.now c.args.index c.loop-step._step (following_in c.args.self c.args.words.now c.loop-step.place) (omega arith))
-    ∙ c.loop-step.invariant
+    let h = c.args.self in
+    let n = c.args.words.now in
+    sym (option_map_id c.nth.result)
+    ∙ nth_from_yields_List c.nth.result _ c.args.index c.nth.ensures.ran (YieldsList-from_first (λ x. x) cells_left _ c.cells_after-cells.ensures)
+    ∙ step_met c.args.index h n (following_in h n c.header.result)
+    ∙ ap (λ p. on_in c.args.index h n (following_in h n p)) c.header.ensures

@@ -1,0 +1,59 @@
+//! Why a program writes nothing.
+
+ghost use Rattle.std.specs.Prelude.{◌≡◌};
+ghost use Rattle.command_line.specs.Failures.{failure_text};
+ghost use Rattle.command_line.specs.declared.failure.Failure.TheVariants.{Run};
+
+use crate::misuse::Misuse;
+use std::error::Error;
+use std::{fmt, io};
+use text::RunError;
+
+/// Why a program fails; it is printed as one line.
+#[derive(Debug, Drop)]
+pub enum Failure {
+    /// The arguments cannot be read.
+    Arguments(io::Error),
+    /// A word of the arguments is wrong.
+    Word(String, Misuse),
+    /// The arguments end too early.
+    End(Misuse),
+    /// A file cannot be read.
+    File(String, io::Error),
+    /// Standard input cannot be read.
+    Input(io::Error),
+    /// Standard output cannot be written.
+    Output(io::Error),
+    /// The calls are not answered.
+    Run(RunError),
+}
+
+impl From<RunError> for Failure {
+    ghost from_gives = { λ e failure. failure ≡ Run e };
+
+    fn from(e: RunError) -> Failure {
+        Failure::Run(e)
+    }
+}
+
+impl fmt::Display for Failure {
+    ghost output = { failure_text };
+
+    fn fmt<W: fmt::Write>(&self, f: &mut fmt::Formatter<W>) -> fmt::Result {
+        match self {
+            Failure::Arguments(e) => write!(f, "arguments: {e}"),
+            Failure::Word(word, misuse) => match misuse {
+                Misuse::NotANumber(limit) => write!(f, "{limit} {word}: {misuse}"),
+                Misuse::OutOfMemory => write!(f, "{misuse}"),
+                _ => write!(f, "{word}: {misuse}"),
+            },
+            Failure::End(misuse) => write!(f, "{misuse}"),
+            Failure::File(name, e) => write!(f, "{name}: {e}"),
+            Failure::Input(e) => write!(f, "standard input: {e}"),
+            Failure::Output(e) => write!(f, "standard output: {e}"),
+            Failure::Run(e) => write!(f, "{e}"),
+        }
+    }
+}
+
+impl Error for Failure {}

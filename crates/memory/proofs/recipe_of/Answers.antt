@@ -1,7 +1,0 @@
-use Rattle.std.proofs.Common.{rules}
-use Rattle.memory.specs.Books.{recipe_of}
-use Rattle.memory.proofs.recipe_of.Goals as goal
-
-pub returns : goal.returns
-unfolding recipe_of
-returns c = search rules

@@ -1,0 +1,27 @@
+//! Rows of words in the middle of a slice.
+
+ghost use Rattle.std.specs.Prelude.{◌≡◌, ◌+◌, ◌≤◌, ◌<◌, T, take, drop, length, nat_le, MatchOption};
+ghost use Rattle.records.specs.Kind.{over};
+
+/// Whether the `count` words from `at` on lie in a slice of `len` words.
+pub fn lies(len: usize, at: usize, count: usize) -> bool
+    ensures exact { result ≡ nat_le (at + count) len }
+    ensures inside { T result → at + count ≤ len }
+{
+    at <= len && count <= len - at
+}
+
+/// The `N` words from `at` on, if they all lie in the slice.
+pub fn row<W, const N: usize>(words: &[W], at: usize) -> Option<&[W; N]>
+    ensures { MatchOption result (length words.now < at + N) (λ y. (at + N ≤ length words.now) × (y.now ≡ take N (drop at words.now))) }
+{
+    words.get(at..)?.first_chunk()
+}
+
+/// Writes the words of a row from `at` on.
+pub fn put<W: Copy + Drop, const N: usize>(words: &mut [W], at: usize, row: [W; N])
+    requires { at + N ≤ length words.old }
+    ensures { words.new ≡ over at row words.old }
+{
+    words[at..at + N].copy_from_slice(&row);
+}
