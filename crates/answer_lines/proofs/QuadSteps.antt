@@ -1,16 +1,17 @@
 -- Lines of four fields, one after the other. Assumes nothing.
-use Rattle.std.proofs.Common.{◌≡◌, ℕ, zero, suc, ◌-◌, ◌/◌, ◌<◌, ◌≤◌, Bool, true, false, cond, List, [], ◌∷◌, ◌++◌, length, take, drop, Some, None, codes, decimal, Option, sym, refl, ap, ◌∙◌, ⊎_elim, append_assoc, append-nil, arith, length-drop}
+use Rattle.std.proofs.Common.{◌≡◌, ℕ, zero, suc, ◌-◌, ◌/◌, ◌<◌, ◌≤◌, Bool, true, false, cond, List, [], ◌∷◌, ◌++◌, map, length, get_or, take, drop, Some, None, codes, decimal, sym, refl, ap, ◌∙◌, append_assoc, append-nil, arith}
 use Rattle.std.specs.List.{flat_map}
 use Rattle.std.proofs.lemmas.List.{take_rest}
-use Rattle.std.proofs.lemmas.Bool.{cond-true, cond-false, lt-ltb, le-ltb, cases_lt}
 use Rattle.words.specs.Spaced.{another_number, spaced}
-use Rattle.fields.specs.Bytes.{field_at, fields_from, nth_row}
+use Rattle.std.proofs.lemmas.List.Folds.{flat_map-map}
+use Rattle.fields.specs.Bytes.{value, field_at, fields_from, rows_of}
 use Rattle.wire.specs.Rows.{rows, lot_in, entry_in}
+use Rattle.wire.proofs.RowLaws.{field_rows}
 use Rattle.wire.specs.Told.{lots_in, entries_in, if_lines}
 use Rattle.firm.specs.Calls.{Answer, lots, entries}
 use Rattle.answer_lines.specs.Shown.{shown, shown_two, shown_four, shown_list, shown_lot, shown_entry}
 use Rattle.answer_lines.specs.Showings.{shown_if, whole, lines_shown}
-use Rattle.answer_lines.specs.Quads.{Quad, quad_in, quads_in, shown_quad, another_quad}
+use Rattle.answer_lines.specs.Quads.{quad_in, quads_in, shown_quad}
 
 -- numbers with spaces between
 pub spaced_two : (a b : ℕ) → spaced (a ∷ (b ∷ [])) ≡ shown_two a b
@@ -22,87 +23,60 @@ spaced_four a b c d =
     ∙ ap (λ (x : List ℕ). decimal a ++ (another_number b ++ x)) (append_assoc (codes " ") (decimal c) (another_number d))
     ∙ sym (append_assoc (decimal a) (another_number b) (codes " " ++ shown_two c d))
 
--- the first line, as it is read
-abbrev first_row : List ℕ → Option (List ℕ)
-first_row bs = nth_row 32 0 bs (fields_from 4 0 bs)
+-- LISTS that are read in two ways and look the same
+module _ {A B : Type 0} (f : A → List ℕ) (read : List ℕ → A) (g : B → List ℕ) (other : List ℕ → B) (e : (bs : List ℕ) → f (read bs) ≡ g (other bs)) where
+  others_same : (n : ℕ) (bs : List ℕ) → flat_map (λ y. codes ", " ++ f y) (rows read 32 n bs) ≡ flat_map (λ y. codes ", " ++ g y) (rows other 32 n bs)
+  unfolding rows
+  others_same zero bs = refl
+  others_same (suc n) bs =
+      ap (λ (x : List ℕ). (codes ", " ++ x) ++ flat_map (λ y. codes ", " ++ f y) (rows read 32 n (drop 32 bs))) (e bs)
+      ∙ ap (λ (x : List ℕ). (codes ", " ++ g (other bs)) ++ x) (others_same n (drop 32 bs))
 
--- there is one where there are 32 bytes
-first_long : (bs : List ℕ) (q : List ℕ) → Some q ≡ first_row bs → 32 ≤ length bs
-first_long bs q e =
-    ⊎_elim (λ (h : 0 < length bs / 32). let r : 32 ≤ length bs = omega arith in r)
-    (λ (h : length bs / 32 ≤ 0). let f : first_row bs ≡ None = cond-false _ _ _ (le-ltb _ _ h) in absurd (let z : ◌≡◌ {A = ℕ} 0 1 = cc in omega arith)) (cases_lt 0 (length bs / 32))
+  list_same : (n : ℕ) (bs : List ℕ) → shown_list f (rows read 32 n bs) ≡ shown_list g (rows other 32 n bs)
+  unfolding rows
+  list_same zero bs = refl
+  list_same (suc n) bs =
+      ap (λ (x : List ℕ). x ++ flat_map (λ y. codes ", " ++ f y) (rows read 32 n (drop 32 bs))) (e bs) ∙ ap (λ (x : List ℕ). g (other bs) ++ x) (others_same n (drop 32 bs))
 
--- then it is the first of the lines
-quads_some : (bs : List ℕ) (q : List ℕ) → Some q ≡ first_row bs → quads_in bs ≡ quad_in bs ∷ quads_in (drop 32 bs)
-unfolding quads_in rows
-quads_some bs q e =
-    let h : 32 ≤ length bs = first_long bs q e in
-    let n : length bs / 32 ≡ suc (length (drop 32 bs) / 32) = simp length-drop (omega arith) in
-    ap (λ (k : ℕ). rows quad_in 32 k bs) n
+-- lines of words are shown as lines of four numbers
+abbrev pub words_shown : List (List ℕ) → List ℕ
+words_shown ws = spaced (map value ws)
 
-quads_none : (bs : List ℕ) → None ≡ first_row bs → quads_in bs ≡ []
-unfolding quads_in rows
-quads_none bs e =
-    ⊎_elim (λ (h : 0 < length bs / 32). let f : first_row bs ≡ Some _ = cond-true _ _ _ (lt-ltb _ _ h) in absurd (let z : ◌≡◌ {A = ℕ} 0 1 = cc in omega arith))
-    (λ (h : length bs / 32 ≤ 0). let n : length bs / 32 ≡ 0 = omega arith in ap (λ (k : ℕ). rows quad_in 32 k bs) n) (cases_lt 0 (length bs / 32))
+abbrev pub another_words : List (List ℕ) → List ℕ
+another_words ws = codes ", " ++ words_shown ws
 
--- and is shown as its four numbers
-first_shown : (bs : List ℕ) (q : List ℕ) → Some q ≡ first_row bs → spaced q ≡ shown_quad (quad_in bs)
+quad_shown : (bs : List ℕ) → spaced (fields_from 4 0 bs) ≡ shown_quad (quad_in bs)
 unfolding quad_in
-first_shown bs q e =
-    let h : 32 ≤ length bs = first_long bs q e in
-    let f : first_row bs ≡ Some (fields_from 4 0 bs) = cond-true _ _ _ (lt-ltb 0 (length bs / 32) (omega arith)) in
-    let g : q ≡ fields_from 4 0 bs = cc in
-    ap spaced g ∙ spaced_four (field_at 0 bs) (field_at 8 bs) (field_at 16 bs) (field_at 24 bs)
+quad_shown bs = spaced_four (field_at 0 bs) (field_at 8 bs) (field_at 16 bs) (field_at 24 bs)
 
--- A TURN OF THE LOOP: one more is written, and the rest gives the whole
-pub quads_more : (a b d bs : List ℕ) (q : List ℕ) → Some q ≡ first_row bs → b ≡ a ++ codes ", " → d ≡ b ++ spaced q
-    → d ++ flat_map another_quad (quads_in (take (length bs - 32) (drop 32 bs))) ≡ a ++ flat_map another_quad (quads_in bs)
-quads_more a b d bs q e f g =
-    let s : d ≡ b ++ shown_quad (quad_in bs) = g ∙ ap (λ (x : List ℕ). b ++ x) (first_shown bs q e) in
-    ap (λ (x : List ℕ). d ++ flat_map another_quad (quads_in x)) (take_rest bs 32)
-    ∙ ap (λ (x : List ℕ). x ++ flat_map another_quad (quads_in (drop 32 bs)))
-    (s ∙ ap (λ (x : List ℕ). x ++ shown_quad (quad_in bs)) f ∙ append_assoc a (codes ", ") (shown_quad (quad_in bs)))
-    ∙ append_assoc a (another_quad (quad_in bs)) (flat_map another_quad (quads_in (drop 32 bs)))
-    ∙ ap (λ (x : List Quad). a ++ flat_map another_quad x) (sym (quads_some bs q e))
+rows_shown : (n : ℕ) (bs : List ℕ) → shown_list spaced (rows_of 4 n bs) ≡ shown_list shown_quad (rows quad_in 32 n bs)
+rows_shown n bs = ap (shown_list spaced) (field_rows 4 n bs) ∙ list_same spaced (fields_from 4 0) shown_quad quad_in quad_shown n bs
 
-pub quads_done : (a e bs : List ℕ) → None ≡ first_row bs → a ++ flat_map another_quad (quads_in bs) ≡ e → a ≡ e
-quads_done a e bs n h = sym (append-nil a) ∙ ap (λ (x : List Quad). a ++ flat_map another_quad x) (sym (quads_none bs n)) ∙ h
+module _ (a bs : List ℕ) where
+  pub quads_none : (xs : List (List (List ℕ))) (b : List ℕ) → length xs < 1 → map (map value) xs ≡ rows_of 4 (length bs / 32) bs → b ≡ a ++ codes "none" → b ≡ a ++ shown_list shown_quad (quads_in bs)
+  unfolding quads_in
+  quads_none [] b h e f = f ∙ ap (λ (x : List ℕ). a ++ x) (ap (shown_list spaced) e ∙ rows_shown (length bs / 32) bs)
+  quads_none (x ∷ xs) b h e f = absurd (omega arith)
 
--- the first line, and the others
-pub quads_first : (a b d bs : List ℕ) (q : List ℕ) → Some q ≡ first_row bs → b ≡ a ++ spaced q → d ≡ b ++ flat_map another_quad (quads_in (take (length bs - 32) (drop 32 bs)))
-    → d ≡ a ++ shown_list shown_quad (quads_in bs)
-quads_first a b d bs q e f g =
-    let s : b ≡ a ++ shown_quad (quad_in bs) = f ∙ ap (λ (x : List ℕ). a ++ x) (first_shown bs q e) in
-    g ∙ ap (λ (x : List ℕ). b ++ flat_map another_quad (quads_in x)) (take_rest bs 32) ∙ ap (λ (x : List ℕ). x ++ flat_map another_quad (quads_in (drop 32 bs))) s
-    ∙ append_assoc a (shown_quad (quad_in bs)) (flat_map another_quad (quads_in (drop 32 bs))) ∙ ap (λ (x : List Quad). a ++ shown_list shown_quad x) (sym (quads_some bs q e))
-
-pub quads_empty : (a b bs : List ℕ) → None ≡ first_row bs → b ≡ a ++ codes "none" → b ≡ a ++ shown_list shown_quad (quads_in bs)
-quads_empty a b bs e f = f ∙ ap (λ (x : List Quad). a ++ shown_list shown_quad x) (sym (quads_none bs e))
+  pub quads_shown : (xs others : List (List (List ℕ))) (b d : List ℕ) → 1 ≤ length xs → map (map value) xs ≡ rows_of 4 (length bs / 32) bs → b ≡ a ++ words_shown (get_or xs 0 []) → others ≡ take (length xs - 1) (drop 1 xs)
+      → d ≡ b ++ flat_map another_words others → d ≡ a ++ shown_list shown_quad (quads_in bs)
+  unfolding quads_in
+  quads_shown [] others b d h e f g i = absurd (omega arith)
+  quads_shown (x ∷ xs) others b d h e f g i =
+      let o : others ≡ xs = g ∙ take_rest (x ∷ xs) 1 in
+      i ∙ ap (λ (y : List ℕ). y ++ flat_map another_words others) f ∙ append_assoc a (words_shown x) (flat_map another_words others)
+      ∙ ap (λ (y : List (List (List ℕ))). a ++ (words_shown x ++ flat_map another_words y)) o
+      ∙ ap (λ (y : List ℕ). a ++ (words_shown x ++ y)) (sym (flat_map-map (λ y. codes ", " ++ spaced y) (map value) xs))
+      ∙ ap (λ (y : List (List ℕ)). a ++ shown_list spaced y) e ∙ ap (λ (y : List ℕ). a ++ y) (rows_shown (length bs / 32) bs)
 
 -- LOTS AND ENTRIES are lines of four fields
-others_same : {A : Type 0} (show : A → List ℕ) (read : List ℕ → A) → ((bs : List ℕ) → shown_quad (quad_in bs) ≡ show (read bs)) → (n : ℕ) (bs : List ℕ)
-    → flat_map another_quad (rows quad_in 32 n bs) ≡ flat_map (λ y. codes ", " ++ show y) (rows read 32 n bs)
-unfolding rows
-others_same show read e zero bs = refl
-others_same show read e (suc n) bs =
-    ap (λ (x : List ℕ). (codes ", " ++ x) ++ flat_map another_quad (rows quad_in 32 n (drop 32 bs))) (e bs)
-    ∙ ap (λ (x : List ℕ). (codes ", " ++ show (read bs)) ++ x) (others_same show read e n (drop 32 bs))
-
-list_same : {A : Type 0} (show : A → List ℕ) (read : List ℕ → A) → ((bs : List ℕ) → shown_quad (quad_in bs) ≡ show (read bs)) → (n : ℕ) (bs : List ℕ)
-    → shown_list shown_quad (rows quad_in 32 n bs) ≡ shown_list show (rows read 32 n bs)
-unfolding rows
-list_same show read e zero bs = refl
-list_same show read e (suc n) bs =
-    ap (λ (x : List ℕ). x ++ flat_map another_quad (rows quad_in 32 n (drop 32 bs))) (e bs) ∙ ap (λ (x : List ℕ). show (read bs) ++ x) (others_same show read e n (drop 32 bs))
-
 lots_same : (bs : List ℕ) → shown_list shown_quad (quads_in bs) ≡ shown_list shown_lot (lots_in bs)
 unfolding quads_in quad_in lots_in lot_in
-lots_same bs = list_same shown_lot lot_in (λ x. refl) (length bs / 32) bs
+lots_same bs = list_same shown_quad quad_in shown_lot lot_in (λ x. refl) (length bs / 32) bs
 
 entries_same : (bs : List ℕ) → shown_list shown_quad (quads_in bs) ≡ shown_list shown_entry (entries_in bs)
 unfolding quads_in quad_in entries_in entry_in
-entries_same bs = list_same shown_entry entry_in (λ x. refl) (length bs / 32) bs
+entries_same bs = list_same shown_quad quad_in shown_entry entry_in (λ x. refl) (length bs / 32) bs
 
 -- a list is shown by its lines, if they are whole
 if_whole : (b : Bool) (a : Answer) (s : List ℕ) → s ≡ shown a → cond b s [] ≡ shown_if (cond b (Some a) None)

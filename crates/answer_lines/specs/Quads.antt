@@ -1,5 +1,5 @@
 -- Lots and entries as they lie in bytes: lines of four fields. Definitions only: nothing is assumed.
-use Rattle.std.specs.Prelude.{ℕ, ◌/◌, List, ◌++◌, length, codes}
+use Rattle.std.specs.Prelude.{ℕ, ◌/◌, List, length}
 use Rattle.fields.specs.Bytes.{field_at}
 use Rattle.wire.specs.Rows.{rows}
 use Rattle.answer_lines.specs.Shown.{shown_four}
@@ -16,7 +16,3 @@ quads_in bs = rows quad_in 32 (length bs / 32) bs
 
 abbrev pub shown_quad : Quad → List ℕ
 shown_quad q = shown_four q.0 q.1 q.2 q.3
-
--- one after another
-abbrev pub another_quad : Quad → List ℕ
-another_quad q = codes ", " ++ shown_quad q

@@ -7,4 +7,4 @@ mod quads;
 mod show;
 
 pub use error::ShowError;
-pub use show::{answers_shown_stands, show_answer};
+pub use show::{answers_shown_stands, put_refusal, show_answer};

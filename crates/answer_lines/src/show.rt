@@ -8,12 +8,12 @@ ghost use Rattle.answer_lines.specs.Showings.{lines_shown, lines_showing, shown_
 
 use crate::error::ShowError;
 use crate::quads::put_quads;
-use fields::ROW_OF_FOUR;
 use std::alloc::AllocError;
-use wire::{Answer, Refusal, read_answer};
+use wire::{Answer, EntryLine, Line, LotLine, Refusal, read_answer};
 use words::{put_number, put_numbers};
 
-fn put_refusal(out: &mut Vec<u8>, refusal: Refusal, place: u64) -> Result<(), AllocError>
+/// Appends the text of a refusal: which one, and the place that it names.
+pub fn put_refusal(out: &mut Vec<u8>, refusal: Refusal, place: u64) -> Result<(), AllocError>
     ensures { OnOk result (out.new.items ≡ out.old.items ++ shown_refusal (refusal_number refusal) place) }
 {
     out.extend_from_slice(b"refused ")?;
@@ -24,11 +24,11 @@ fn put_refusal(out: &mut Vec<u8>, refusal: Refusal, place: u64) -> Result<(), Al
 }
 
 // Appends the lines of a list; nothing where they are not whole.
-fn put_lines(out: &mut Vec<u8>, lines: &[u8]) -> Result<(), ShowError>
+fn put_lines<L: Line>(out: &mut Vec<u8>, lines: &[u8]) -> Result<(), ShowError>
     ensures showing { OnMemory result (result ≡ lines_showing lines.now) }
     ensures text { OnMemory result (out.new.items ≡ out.old.items ++ lines_shown lines.now) }
 {
-    if lines.len() % ROW_OF_FOUR != 0 {
+    if !L::whole(lines) {
         return Err(ShowError::NoAnswer);
     }
     put_quads(out, lines)?;
@@ -44,13 +44,13 @@ fn put_answer(out: &mut Vec<u8>, answer: Answer<'_>) -> Result<(), ShowError>
         Answer::Refused(refusal, place) => put_refusal(out, refusal, place)?,
         Answer::Number(n) => put_number(out, n)?,
         Answer::Two(a, b) => put_numbers(out, &[a, b])?,
-        Answer::Lots(lines) => put_lines(out, lines)?,
-        Answer::Entries(lines) => put_lines(out, lines)?,
+        Answer::Lots(lines) => put_lines::<LotLine>(out, lines)?,
+        Answer::Entries(lines) => put_lines::<EntryLine>(out, lines)?,
     }
     Ok(())
 }
 
-// Not `Display` of `Answer`: that would have to stand in `wire`, which knows no text, and some bytes have none.
+// Not `Display` of a wrapper: the text goes into bytes, not into a `String`, and some answers have none.
 /// Appends the text of the answer whose bytes these are. Of bytes that are no answer's it appends nothing, and says so. `OutOfMemory` only for want of
 /// memory.
 pub fn show_answer(out: &mut Vec<u8>, answer: &[u8]) -> Result<(), ShowError>

@@ -1,6 +1,6 @@
 //! What stands after the words that begin a call.
 
-ghost use Rattle.std.specs.Prelude.{◌≤◌, ◌∷◌, Ok};
+ghost use Rattle.std.specs.Prelude.{◌*◌, ◌^◌, ◌<◌, ◌∷◌, Ok};
 ghost use Rattle.words.specs.Readers.{then};
 ghost use Rattle.fields.specs.Bytes.{all_fields};
 ghost use Rattle.wire.specs.Said.{kind_number};
@@ -20,7 +20,7 @@ fn read_fields<'a, const N: usize>(
     line: &'a [u8],
     call: &mut Vec<u8>,
 ) -> Result<(), Stop<'a>>
-    requires { N ≤ 3 }
+    requires { N * 8 < 2 ^ 63 }
     ensures { Gives (λ _. call.new.items) result (then (numbers N line.now) (λ ns. Ok (kind_number kind ∷ all_fields ns))) }
 {
     let fields = read_numbers::<N>(line)?;

@@ -6,7 +6,7 @@ ghost use Rattle.call_lines.specs.declared.stop.Stop.TheVariants.{At, OutOfMemor
 use std::alloc::{AllocError, AllocFailed};
 
 /// Why a reader gives nothing.
-#[derive(Clone, Copy)]
+#[derive(Clone, Copy, PartialEq, Eq, Debug)]
 pub enum Stop<'a> {
     /// What is left of the line from the word that does not fit on.
     At(&'a [u8]),

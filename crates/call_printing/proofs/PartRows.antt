@@ -1,9 +1,13 @@
 -- A recipe's parts in bytes, one after the other. Assumes nothing.
-use Rattle.std.proofs.Common.{◌≡◌, ℕ, zero, suc, ◌-◌, ◌/◌, ◌%◌, ◌≤◌, true, eqb, ltb, List, [], ◌∷◌, ◌++◌, length, take, drop, Some, None, codes, decimal, sym, refl, ap, ◌∙◌, append_assoc, append-nil, arith, length-drop}
+use Rattle.std.proofs.Common.{◌≡◌, ℕ, ◌-◌, ◌+◌, ◌*◌, ◌/◌, ◌<◌, ◌≤◌, true, List, [], ◌∷◌, ◌++◌, map, length, get_or, take, drop, codes, decimal, sym, ap, ◌∙◌, append_assoc, append-nil, arith, length-drop}
 use Rattle.std.specs.List.{flat_map}
-use Rattle.std.proofs.lemmas.List.{take_rest}
-use Rattle.std.proofs.lemmas.Bool.{cond-true, and_from, eq-eqb, lt-ltb}
-use Rattle.wire.specs.Rows.{rows, nth, part_in}
+use Rattle.std.proofs.lemmas.List.{take_rest, take_more, take_all, drop_more, get_or-drop, nil_from_length, flat_map_more}
+use Rattle.std.proofs.lemmas.Bool.{cond-true}
+use Rattle.fields.specs.Bytes.{value, fields_from, rows_of}
+use Rattle.fields.proofs.Words.{rows_counted, row_read}
+use Rattle.wire.specs.Rows.{part_in}
+use Rattle.wire.specs.Lines.{parts_counted}
+use Rattle.wire.proofs.RowLaws.{rows_at}
 use Rattle.wire.specs.Said.{are_parts, parts_in}
 use Rattle.firm.specs.Stock.{Part}
 use Rattle.call_printing.specs.Recipes.{recipe_line}
@@ -11,64 +15,55 @@ use Rattle.call_printing.proofs.Spacing.{spaced_one}
 use Rattle.words.specs.Spaced.{spaced}
 use Rattle.call_lines.specs.Written.{written_part, another_part, written_parts}
 
--- the first part, and those in the rest
-some_row : (n : ℕ) (bs : List ℕ) (p : Part) → n ≡ length bs / 16 → Some p ≡ nth (rows part_in 16 n bs) 0 → rows part_in 16 n bs ≡ p ∷ parts_in (drop 16 bs)
-unfolding rows nth parts_in
-some_row zero bs p h e = absurd (let z : ◌≡◌ {A = ℕ} 0 1 = cc in omega arith)
-some_row (suc n) bs p h e =
-    let m : n ≡ length (drop 16 bs) / 16 = simp length-drop (omega arith) in
-    let g : part_in bs ≡ p = cc in
-    ap (λ (k : ℕ). part_in bs ∷ rows part_in 16 k (drop 16 bs)) m ∙ ap (λ (x : Part). x ∷ rows part_in 16 (length (drop 16 bs) / 16) (drop 16 bs)) g
+-- words that are the rows of parts
+module _ (xs : List (List (List ℕ))) (bs : List ℕ) (e : map (map value) xs ≡ rows_of 2 (length bs / 16) bs) where
+  as_many : length xs ≡ length (parts_in bs)
+  as_many = rows_counted 2 xs (length bs / 16) bs e ∙ parts_counted bs
 
-parts_some : (bs : List ℕ) (p : Part) → Some p ≡ nth (parts_in bs) 0 → parts_in bs ≡ p ∷ parts_in (drop 16 bs)
-unfolding parts_in
-parts_some bs p e = some_row (length bs / 16) bs p refl e
+  -- the k-th part, as it is read of its words
+  part_there : (k : ℕ) (p : Part) (ns : List ℕ) → k < length xs → ns ≡ map value (get_or xs k []) → ((b : List ℕ) → ns ≡ fields_from 2 0 b → p ≡ part_in b) → p ≡ get_or (parts_in bs) k p
+  unfolding parts_in
+  part_there k p ns h f g =
+      let l : length xs ≡ length bs / 16 = rows_counted 2 xs (length bs / 16) bs e in
+      g (drop (16 * k) bs) (f ∙ row_read 2 xs k (length bs / 16) bs [] e (omega arith)) ∙ sym (rows_at part_in 16 (length bs / 16) k bs p (omega arith))
 
-no_row : (ps : List Part) → None ≡ nth ps 0 → ps ≡ []
-unfolding nth
-no_row [] e = refl
-no_row (p ∷ ps) e = absurd (let z : ◌≡◌ {A = ℕ} 0 1 = cc in omega arith)
+  pub no_parts : (a : List ℕ) → length xs < 1 → a ≡ a ++ written_parts (parts_in bs)
+  no_parts a h = sym (append-nil a) ∙ ap (λ (ps : List Part). a ++ written_parts ps) (sym (nil_from_length (parts_in bs) (omega (arith, as_many))))
 
--- there is one where there are 16 bytes
-long_row : (n : ℕ) (bs : List ℕ) (p : Part) → n ≡ length bs / 16 → Some p ≡ nth (rows part_in 16 n bs) 0 → 16 ≤ length bs
-unfolding rows nth
-long_row zero bs p h e = absurd (let z : ◌≡◌ {A = ℕ} 0 1 = cc in omega arith)
-long_row (suc n) bs p h e = omega arith
+  pub parts_first : (a b d : List ℕ) (p : Part) (ns : List ℕ) → 1 ≤ length xs → ns ≡ map value (get_or xs 0 []) → ((b : List ℕ) → ns ≡ fields_from 2 0 b → p ≡ part_in b)
+      → b ≡ a ++ written_part p → d ≡ b ++ flat_map another_part (drop 1 (parts_in bs)) → d ≡ a ++ written_parts (parts_in bs)
+  parts_first a b d p ns h f g i j =
+      let ps : List Part = parts_in bs in
+      let m : ps ≡ get_or ps 0 p ∷ drop 1 ps = drop_more ps 0 p (omega (arith, as_many)) in
+      let r : p ≡ get_or ps 0 p = part_there 0 p ns (omega arith) f g in
+      j ∙ ap (λ (x : List ℕ). x ++ flat_map another_part (drop 1 ps)) i ∙ append_assoc a (written_part p) (flat_map another_part (drop 1 ps))
+      ∙ ap (λ (q : Part). a ++ written_parts (q ∷ drop 1 ps)) r ∙ ap (λ (qs : List Part). a ++ written_parts qs) (sym m)
 
-pub part_long : (bs : List ℕ) (p : Part) → Some p ≡ nth (parts_in bs) 0 → 16 ≤ length bs
-unfolding parts_in
-part_long bs p e = long_row (length bs / 16) bs p refl e
+  -- A TURN OF THE LOOP: one more is written
+  pub parts_more : (i o b d : List ℕ) (k : ℕ) (p : Part) (ns : List ℕ) → k < length (take (length xs - 1) (drop 1 xs)) → ns ≡ map value (get_or (take (length xs - 1) (drop 1 xs)) k [])
+      → ((b : List ℕ) → ns ≡ fields_from 2 0 b → p ≡ part_in b) → o ≡ i ++ flat_map another_part (take k (drop 1 (parts_in bs))) → b ≡ o ++ codes "," → d ≡ b ++ written_part p
+      → d ≡ i ++ flat_map another_part (take (k + 1) (drop 1 (parts_in bs)))
+  parts_more i o b d k p ns h f g u v w =
+      let ps : List Part = drop 1 (parts_in bs) in
+      let t : take (length xs - 1) (drop 1 xs) ≡ drop 1 xs = take_rest xs 1 in
+      let l : 1 + k < length xs = omega (arith, ap length t, length-drop 1 xs) in
+      let n : ns ≡ map value (get_or xs (1 + k) []) = f ∙ ap (λ (ys : List (List (List ℕ))). map value (get_or ys k [])) t ∙ ap (map value) (get_or-drop 1 xs k []) in
+      let r : p ≡ get_or ps k p = part_there (1 + k) p ns l n g ∙ sym (get_or-drop 1 (parts_in bs) k p) in
+      let m : take (k + 1) ps ≡ take k ps ++ (get_or ps k p ∷ []) = take_more ps k p (omega (arith, as_many, length-drop 1 (parts_in bs))) in
+      w ∙ ap (λ (x : List ℕ). x ++ written_part p) (v ∙ ap (λ (x : List ℕ). x ++ codes ",") u)
+      ∙ append_assoc (i ++ flat_map another_part (take k ps)) (codes ",") (written_part p)
+      ∙ flat_map_more another_part i (take k ps) p
+      ∙ ap (λ (q : Part). i ++ flat_map another_part (take k ps ++ (q ∷ []))) r
+      ∙ ap (λ (qs : List Part). i ++ flat_map another_part qs) (sym m)
 
-pub rest_length : (bs : List ℕ) → length (take (length bs - 16) (drop 16 bs)) ≡ length bs - 16
-rest_length bs = ap length (take_rest bs 16) ∙ length-drop 16 bs
-
--- A TURN OF THE LOOP: one more is written, and the rest gives the whole
-pub parts_more : (a b d bs : List ℕ) (p : Part) → Some p ≡ nth (parts_in bs) 0 → b ≡ a ++ codes "," → d ≡ b ++ written_part p
-    → d ++ flat_map another_part (parts_in (take (length bs - 16) (drop 16 bs))) ≡ a ++ flat_map another_part (parts_in bs)
-parts_more a b d bs p e f g =
-    ap (λ (x : List ℕ). d ++ flat_map another_part (parts_in x)) (take_rest bs 16)
-    ∙ ap (λ (x : List ℕ). x ++ flat_map another_part (parts_in (drop 16 bs))) (g ∙ ap (λ (x : List ℕ). x ++ written_part p) f ∙ append_assoc a (codes ",") (written_part p))
-    ∙ append_assoc a (another_part p) (flat_map another_part (parts_in (drop 16 bs)))
-    ∙ ap (λ (x : List Part). a ++ flat_map another_part x) (sym (parts_some bs p e))
-
-pub parts_done : (a e bs : List ℕ) → None ≡ nth (parts_in bs) 0 → a ++ flat_map another_part (parts_in bs) ≡ e → a ≡ e
-parts_done a e bs n h = sym (append-nil a) ∙ ap (λ (x : List Part). a ++ flat_map another_part x) (sym (no_row (parts_in bs) n)) ∙ h
-
-pub parts_first : (a b d bs : List ℕ) (p : Part) → Some p ≡ nth (parts_in bs) 0 → b ≡ a ++ written_part p → d ≡ b ++ flat_map another_part (parts_in (take (length bs - 16) (drop 16 bs)))
-    → d ≡ a ++ written_parts (parts_in bs)
-parts_first a b d bs p e f g =
-    g ∙ ap (λ (x : List ℕ). b ++ flat_map another_part (parts_in x)) (take_rest bs 16) ∙ ap (λ (x : List ℕ). x ++ flat_map another_part (parts_in (drop 16 bs))) f
-    ∙ append_assoc a (written_part p) (flat_map another_part (parts_in (drop 16 bs))) ∙ ap (λ (x : List Part). a ++ written_parts x) (sym (parts_some bs p e))
-
-pub parts_empty : (a bs : List ℕ) → None ≡ nth (parts_in bs) 0 → a ≡ a ++ written_parts (parts_in bs)
-parts_empty a bs e = sym (append-nil a) ∙ ap (λ (x : List Part). a ++ written_parts x) (sym (no_row (parts_in bs) e))
+  pub parts_all : (k : ℕ) → length (take (length xs - 1) (drop 1 xs)) ≤ k → take k (drop 1 (parts_in bs)) ≡ drop 1 (parts_in bs)
+  parts_all k h = take_all k (drop 1 (parts_in bs)) (omega (arith, as_many, ap length (take_rest xs 1), length-drop 1 xs, length-drop 1 (parts_in bs)))
 
 -- a recipe whose bytes are parts
-pub recipe_well : (a b d e bs : List ℕ) (i : ℕ) → length bs % 16 ≡ 0 → length bs / 16 ≤ 255 → b ≡ a ++ (codes "made of " ++ spaced (i ∷ [])) → d ≡ b ++ codes ":" → e ≡ d ++ written_parts (parts_in bs)
+pub recipe_well : (a b d e bs : List ℕ) (i : ℕ) → are_parts bs ≡ true → b ≡ a ++ (codes "made of " ++ spaced (i ∷ [])) → d ≡ b ++ codes ":" → e ≡ d ++ written_parts (parts_in bs)
     → e ≡ a ++ recipe_line i bs
-recipe_well a b d e bs i whole few f' g h =
+recipe_well a b d e bs i t f' g h =
     let f : b ≡ a ++ (codes "made of " ++ decimal i) = f' ∙ ap (λ (x : List ℕ). a ++ (codes "made of " ++ x)) (spaced_one i) in
-    let t : are_parts bs ≡ true = and_from (eqb (length bs % 16) 0) (ltb (length bs / 16) 256) (eq-eqb (length bs % 16) 0 whole) (lt-ltb (length bs / 16) 256 (omega arith)) in
     let W : List ℕ = written_parts (parts_in bs) in
     h ∙ ap (λ (x : List ℕ). x ++ W) (g ∙ ap (λ (x : List ℕ). x ++ codes ":") f)
     ∙ append_assoc (a ++ (codes "made of " ++ decimal i)) (codes ":") W

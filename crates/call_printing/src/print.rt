@@ -7,18 +7,14 @@ ghost use Rattle.call_printing.specs.Recipes.{recipe_line};
 
 use crate::numbers::put_words;
 use crate::recipes::put_parts;
-use fields::ROW_OF_TWO;
 use std::alloc::AllocError;
-use wire::{Call, MOST_PARTS};
+use wire::{Call, are_parts};
 
 // Appends a recipe; nothing where its parts are not whole, or more than a recipe can have.
 fn print_recipe(out: &mut Vec<u8>, item: u64, parts: &[u8]) -> Result<(), AllocError>
     ensures { OnOk result (out.new.items ≡ out.old.items ++ recipe_line item parts.now) }
 {
-    if parts.len() % ROW_OF_TWO != 0 {
-        return Ok(());
-    }
-    if parts.len() / ROW_OF_TWO > MOST_PARTS {
+    if !are_parts(parts) {
         return Ok(());
     }
     put_words(out, b"made of ", &[item])?;
@@ -27,7 +23,7 @@ fn print_recipe(out: &mut Vec<u8>, item: u64, parts: &[u8]) -> Result<(), AllocE
     Ok(())
 }
 
-// Not `Display` of `Call`: that would have to stand in `wire`, which knows no text.
+// Not `Display` of a wrapper: the text goes into bytes, not into a `String`. The words are not shared with `openings`, which reads them one by one.
 /// Appends the line of a call; nothing of a recipe whose bytes are no parts. An `Err` only for want of memory.
 pub fn print_call(out: &mut Vec<u8>, call: Call<'_>) -> Result<(), AllocError>
     ensures { OnOk result (out.new.items ≡ out.old.items ++ line_of_call (said call.entry)) }

@@ -42,12 +42,13 @@ impl fmt::Display for Failure {
     fn fmt<W: fmt::Write>(&self, f: &mut fmt::Formatter<W>) -> fmt::Result {
         match self {
             Failure::Arguments(e) => write!(f, "arguments: {e}"),
-            Failure::Word(word, misuse) => match misuse {
-                Misuse::NotANumber(limit) => write!(f, "{limit} {word}: {misuse}"),
-                Misuse::OutOfMemory => write!(f, "{misuse}"),
-                _ => write!(f, "{word}: {misuse}"),
-            },
-            Failure::End(misuse) => write!(f, "{misuse}"),
+            Failure::Word(word, misuse @ Misuse::NotANumber(limit)) => {
+                write!(f, "{limit} {word}: {misuse}")
+            }
+            Failure::Word(_, misuse @ Misuse::OutOfMemory) | Failure::End(misuse) => {
+                write!(f, "{misuse}")
+            }
+            Failure::Word(word, misuse) => write!(f, "{word}: {misuse}"),
             Failure::File(name, e) => write!(f, "{name}: {e}"),
             Failure::Input(e) => write!(f, "standard input: {e}"),
             Failure::Output(e) => write!(f, "standard output: {e}"),

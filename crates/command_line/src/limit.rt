@@ -21,7 +21,7 @@ pub enum Limit {
 
 // A match each: a table by number would be no plainer, and would not be asked for a limit that it lacks.
 impl Limit {
-    // Not `match word { b"--items" => .. }`: its proof needs a case for each byte.
+    // Not `match word { b"--items" => .. }`: its proof needs a case for each byte. Nor `find` over all five: tried, and its proof does not close by search.
     /// The limit that an option names.
     pub fn named(word: &[u8]) -> Option<Limit>
         ensures { result ≡ limit_named word.now }

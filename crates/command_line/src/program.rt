@@ -22,7 +22,7 @@ const WHAT_OPTIONS_DO: &str = "  --items N    how many items there can be (32; a
 ";
 
 /// A program that makes one text of another, a file of calls, on books as wide as it is asked for.
-#[derive(Clone, Copy)]
+#[derive(Clone, Copy, PartialEq, Eq, Debug)]
 pub struct Program {
     pub name: &'static str,
     /// What it does, as its help says.

@@ -3,13 +3,12 @@ use Rattle.std.proofs.Common.{◌≡◌, ℕ, zero, suc, ◌+◌, ◌-◌, ◌*�
 use Rattle.std.specs.List.{flat_map, slice_range}
 use Rattle.std.specs.Array.{IsFromFnResult, IsFromFnResultFrom, IsFirstChunk}
 use Rattle.std.specs.Simd.{first_chunks}
-use Rattle.std.proofs.lemmas.List.{drop-drop, drop_more, drop_all, take_rest}
-use Rattle.std.proofs.Math.Nat.{mul-div-le, mul-le-mul_left, mul_assoc}
+use Rattle.std.proofs.lemmas.List.{drop-drop, drop_more, drop_all, take_rest, get_or-map, length-map}
 use Rattle.std.proofs.lemmas.Bool.{cond-true, cond-false, le-leb, lt-leb, cases_lt}
 use Rattle.std.specs.Option.{MatchOption, ok_or}
 use denote.Ref.{Bor}
 use denote.Param.Members.{Mut, Called}
-use Rattle.fields.specs.Bytes.{value, field_bytes, field_at, all_fields, fields_from}
+use Rattle.fields.specs.Bytes.{value, field_bytes, field_at, all_fields, fields_from, rows_of}
 
 -- an array that calls gave, each of them of the element that a list has there
 module _ {F A B : Type 0} (g : Mut F (ℕ × Unit {0}) B) (h : A → B) (d : A) (f : F) (xs : List A) where
@@ -75,14 +74,49 @@ words_behind n bs l =
     let q : length (drop 1 bs) / 8 ≡ n = omega (arith, length-drop 1 bs) in
     ap (λ (xs : List ℕ). map value (first_chunks 8 (length xs / 8) xs)) t ∙ ap (λ (m : ℕ). map value (first_chunks 8 m (drop 1 bs))) q ∙ words_are n 1 bs
 
-pub words_in_row : (n k m : ℕ) (bs : List ℕ) (d : List (List ℕ)) → k < m / n → map value (get_or (first_chunks n (m / n) (first_chunks 8 m bs)) k d) ≡ fields_from n (8 * n * k) bs
-words_in_row n k m bs d h =
-    let i : n * k + n ≤ m = omega (arith, mul-suc n k, mul-div-le m n, mul-le-mul_left n h) in
-    let a : get_or (first_chunks n (m / n) (first_chunks 8 m bs)) k d ≡ take n (drop (n * k) (first_chunks 8 m bs)) = nth_chunk n k (m / n) (first_chunks 8 m bs) d h in
-    let b : drop (n * k) (first_chunks 8 m bs) ≡ first_chunks 8 (m - n * k) (drop (8 * (n * k)) bs) = drop_chunks 8 (n * k) (m - n * k) m bs (omega arith) in
-    let c : take n (first_chunks 8 (m - n * k) (drop (8 * (n * k)) bs)) ≡ first_chunks 8 n (drop (8 * (n * k)) bs) = take_chunks 8 n (m - n * k) (drop (8 * (n * k)) bs) (omega arith) in
-    let e : 8 * (n * k) ≡ 8 * n * k = omega (arith, mul_assoc 8 n k) in
-    ap (map value) (a ∙ ap (take n) b ∙ c) ∙ words_are n (8 * (n * k)) bs ∙ ap (λ (j : ℕ). fields_from n j bs) e
+-- the fields of rows of words
+pub rows_are : (n k m : ℕ) (bs : List ℕ) → n * k ≤ m → map (map value) (first_chunks n k (first_chunks 8 m bs)) ≡ rows_of n k bs
+rows_are n zero m bs h = refl
+rows_are n (suc k) m bs h =
+    let i : n + n * k ≤ m = omega (arith, mul-suc n k) in
+    let a : take n (first_chunks 8 m bs) ≡ first_chunks 8 n bs = take_chunks 8 n m bs (omega arith) in
+    let b : drop n (first_chunks 8 m bs) ≡ first_chunks 8 (m - n) (drop (8 * n) bs) = drop_chunks 8 n (m - n) m bs (omega arith) in
+    ap (λ (x : List (List ℕ)). map value x ∷ map (map value) (first_chunks n k (drop n (first_chunks 8 m bs)))) a
+    ∙ ap (λ (x : List ℕ). x ∷ map (map value) (first_chunks n k (drop n (first_chunks 8 m bs)))) (words_are n 0 bs)
+    ∙ ap (λ (x : List (List ℕ)). fields_from n 0 bs ∷ map (map value) (first_chunks n k x)) b
+    ∙ ap (λ (x : List (List ℕ)). fields_from n 0 bs ∷ x) (rows_are n k (m - n) (drop (8 * n) bs) (omega arith))
+
+-- fields of the rest of bytes
+pub fields_in : (n j m : ℕ) (bs : List ℕ) → fields_from n j (drop m bs) ≡ fields_from n (m + j) bs
+unfolding field_at
+fields_in zero j m bs = refl
+fields_in (suc n) j m bs =
+    let e : m + (j + 8) ≡ m + j + 8 = omega arith in
+    ap (λ (xs : List ℕ). value (take 8 xs) ∷ fields_from n (j + 8) (drop m bs)) (drop-drop j m bs)
+    ∙ ap (λ (ns : List ℕ). value (take 8 (drop (m + j) bs)) ∷ ns) (fields_in n (j + 8) m bs ∙ ap (λ (i : ℕ). fields_from n i bs) e)
+
+row_at : (n k m : ℕ) (bs : List ℕ) → k < m → get_or (rows_of n m bs) k [] ≡ fields_from n 0 (drop (8 * n * k) bs)
+row_at n k zero bs h = absurd (omega arith)
+row_at n zero (suc m) bs h =
+    let z : 0 ≡ 8 * n * 0 = omega arith in
+    ap (λ (i : ℕ). fields_from n 0 (drop i bs)) z
+row_at n (suc k) (suc m) bs h =
+    let p : 8 * n + 8 * n * k ≡ 8 * n * suc k = omega (arith, mul-suc (8 * n) k) in
+    row_at n k m (drop (8 * n) bs) (omega arith) ∙ ap (fields_from n 0) (drop-drop (8 * n * k) (8 * n) bs ∙ ap (λ (i : ℕ). drop i bs) p)
+
+length_rows : (n m : ℕ) (bs : List ℕ) → length (rows_of n m bs) ≡ m
+length_rows n zero bs = refl
+length_rows n (suc m) bs = ap suc (length_rows n m (drop (8 * n) bs))
+
+-- rows of words: how many there are, and the k-th
+module _ (n : ℕ) (xs : List (List (List ℕ))) where
+  pub rows_counted : (m : ℕ) (bs : List ℕ) → map (map value) xs ≡ rows_of n m bs → length xs ≡ m
+  rows_counted m bs e = sym (length-map xs (map value)) ∙ ap length e ∙ length_rows n m bs
+
+  pub row_read : (k m : ℕ) (bs : List ℕ) (d : List (List ℕ)) → map (map value) xs ≡ rows_of n m bs → k < m → map value (get_or xs k d) ≡ fields_from n 0 (drop (8 * n * k) bs)
+  row_read k m bs d e h =
+      let l : length xs ≡ m = rows_counted m bs e in
+      sym (get_or-map (map value) xs k d [] (omega arith)) ∙ ap (λ (r : List (List ℕ)). get_or r k []) e ∙ row_at n k m bs h
 
 -- the word that bytes begin with
 pub leading : (bs : List ℕ) (o : Option (Bor (List ℕ))) (r : Option ℕ) → MatchOption o (length bs < 8) (λ y. IsFirstChunk bs y.now 8) → MatchOption o (r ≡ None) (λ y. r ≡ Some (value y.now)) → r ≡ cond (leb 8 (length bs)) (Some (field_at 0 bs)) None

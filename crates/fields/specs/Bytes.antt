@@ -32,6 +32,11 @@ abbrev pub fields_from : ℕ → ℕ → List ℕ → List ℕ
 fields_from zero k bs = []
 fields_from (suc n) k bs = field_at k bs ∷ fields_from n (k + 8) bs
 
+-- the fields of each of the first m rows of n fields
+abbrev pub rows_of : ℕ → ℕ → List ℕ → List (List ℕ)
+rows_of n zero bs = []
+rows_of n (suc m) bs = fields_from n 0 bs ∷ rows_of n m (drop (8 * n) bs)
+
 -- what is read of a row that must have n bytes; else the place where it ceases to fit: its end if bytes are missing, n if there are too many
 abbrev pub sized : {A : Type 0} → ℕ → List ℕ → A → Result A ℕ
 sized n bs a = cond (length bs == n) (Ok a) (Err (min (length bs) n))

@@ -6,7 +6,7 @@ ghost use Rattle.std.specs.Prelude.{◌≡◌, ◌+◌, ◌*◌, min};
 mod reading;
 mod writing;
 
-pub use reading::{fields, first_field, leading_field, nth_row};
+pub use reading::{fields, first_field, leading_field, nth_row, numbers_of, rows_in};
 pub use writing::{put_fields, put_line};
 
 /// The bytes of a field.

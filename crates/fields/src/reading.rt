@@ -1,5 +1,5 @@
-ghost use Rattle.std.specs.Prelude.{◌≡◌, ◌+◌, ◌*◌, ◌<◌, ◌≤◌, [], length, map, slice_index_or, if◌then◌else◌, Some, None, Ok, Err, nat_le};
-ghost use Rattle.fields.specs.Bytes.{value, field_at, fields_from, sized, nth_row};
+ghost use Rattle.std.specs.Prelude.{◌≡◌, ◌+◌, ◌*◌, ◌/◌, ◌<◌, ◌≤◌, [], length, map, slice_index_or, if◌then◌else◌, Some, None, Ok, Err, nat_le};
+ghost use Rattle.fields.specs.Bytes.{value, field_at, fields_from, rows_of, sized, nth_row};
 
 use crate::{FIELD, row_size};
 use std::array;
@@ -11,8 +11,8 @@ fn number(word: &[u8; FIELD]) -> u64
     u64::from_le_bytes(*word)
 }
 
-// The numbers that words of eight bytes write.
-fn numbers<const N: usize>(words: &[[u8; FIELD]; N]) -> [u64; N]
+/// The numbers that words of eight bytes write.
+pub fn numbers_of<const N: usize>(words: &[[u8; FIELD]; N]) -> [u64; N]
     ensures { result ≡ map value words.now }
 {
     array::from_fn(
@@ -46,7 +46,17 @@ pub fn fields<const N: usize>(bytes: &[u8]) -> Result<[u64; N], usize>
         return Err(bytes.len().min(size));
     }
     let (words, _) = bytes[1..].as_chunks();
-    Ok(numbers(words.as_array().unwrap()))
+    Ok(numbers_of(words.as_array().unwrap()))
+}
+
+/// The whole rows of so many fields that bytes hold, as words of eight bytes.
+pub fn rows_in<const N: usize>(bytes: &[u8]) -> &[[[u8; FIELD]; N]]
+    requires { 0 < N }
+    ensures { map (map value) result.now ≡ rows_of N (length bytes.now / (8 * N)) bytes.now }
+{
+    let (words, _) = bytes.as_chunks();
+    let (rows, _) = words.as_chunks();
+    rows
 }
 
 /// The k-th of rows of so many fields.
@@ -54,8 +64,6 @@ pub fn nth_row<const N: usize>(rows: &[u8], k: usize) -> Option<[u64; N]>
     requires { 0 < N }
     ensures { result ≡ nth_row (8 * N) k rows.now (fields_from N (8 * N * k) rows.now) }
 {
-    let (words, _) = rows.as_chunks();
-    let (rows, _) = words.as_chunks();
-    let row = rows.get(k)?;
-    Some(numbers(row))
+    let row = rows_in(rows).get(k)?;
+    Some(numbers_of(row))
 }

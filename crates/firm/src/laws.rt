@@ -3,11 +3,13 @@
 ghost use Rattle.firm.specs.Laws.{LackingIs, ReachedFits, LotsSmall, ProductsSmall, OrdersKnown};
 
 /// What is lacking is what was wanted less what was on hand.
+#[tactic(auto, using(crate::proofs::Bounds::take_lacking))]
 pub fn lacking_is_stands()
     ensures { LackingIs }
 {}
 
 /// All that is reached is within the limits.
+#[tactic(auto, using(crate::proofs::Bounds::reached_fits))]
 pub fn reached_fits_stands()
     ensures { ReachedFits }
 {}

@@ -33,6 +33,7 @@ pub fn refusal_keeps_by_steps<K: Keeps>(k: &K)
 {}
 
 /// Memory suffices, whatever is called.
+#[tactic(auto, using(crate::proofs::Keeping::enough_memory_by_steps))]
 pub fn enough_memory_by_steps<K: Keeps>(k: &K)
     requires sound { KeepsSound (K.keeper k.now) (K.sound k.now) }
     requires within { Within (K.sound k.now) }

@@ -13,6 +13,7 @@ pub fn taking_keeps_stands()
 {}
 
 /// 3. From a younger lot nothing is taken as long as an older one of the item is left.
+#[tactic(auto, using(crate::proofs::Taking::oldest_first))]
 pub fn oldest_first_stands()
     ensures { OldestFirst }
 {}
@@ -28,16 +29,19 @@ pub fn open_orders_stands()
 {}
 
 /// 6. What is made costs what went into it, to the cent.
+#[tactic(auto, using(crate::proofs::Making::made_costs))]
 pub fn made_costs_stands()
     ensures { MadeCosts }
 {}
 
 /// 7. Entries stay as they are.
+#[tactic(auto, using(crate::proofs::Staying::entries_stay))]
 pub fn entries_stay_stands()
     ensures { EntriesStay }
 {}
 
 /// 8. A call that is turned away changes no later answer.
+#[tactic(auto, using(crate::proofs::Staying::turned_away))]
 pub fn turned_away_stands()
     ensures { TurnedAway }
 {}

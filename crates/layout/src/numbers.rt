@@ -6,12 +6,14 @@ ghost use Rattle.std.specs.Prelude.{◌≡◌, Some, None, if◌then◌else◌, 
 pub fn at_most(value: u64, most: u32) -> Option<u32>
     ensures { result ≡ (if nat_le value most then Some value else None) }
 {
-    u32::try_from(value).ok().filter(|v| *v <= most)
+    let value = u32::try_from(value).ok()?;
+    (value <= most).then_some(value)
 }
 
 /// A number that is below `bound`.
 pub fn below(value: u64, bound: u32) -> Option<u32>
     ensures { result ≡ (if nat_lt value bound then Some value else None) }
 {
-    u32::try_from(value).ok().filter(|v| *v < bound)
+    let value = u32::try_from(value).ok()?;
+    (value < bound).then_some(value)
 }

@@ -62,7 +62,7 @@ impl Shape {
         ensures { result ≡ following_in self words.now place }
     {
         let cell = self.after(words, place);
-        if cell < self.cells { Some(cell) } else { None }
+        (cell < self.cells).then_some(cell)
     }
 
     #[tactic(auto, unfolding(crate::specs::Walk::cells_left))]

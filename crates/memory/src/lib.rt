@@ -18,6 +18,7 @@ pub use lent::{Memory, View};
 pub use opening::open;
 
 /// The laws of getting after putting, for each subject and between them, and what opened books hold.
+#[tactic(auto, using(crate::proofs::Laws::memory_laws))]
 pub fn memory_stands()
     ensures { MemoryLaws }
 {}

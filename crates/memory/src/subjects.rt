@@ -5,7 +5,7 @@ ghost use Rattle.memory.specs.Books.{order_record, put_order, lot_record, put_lo
 ghost use Rattle.memory.specs.Lent.{seen, words, Same, NarrowAlone};
 
 use crate::lent::{Memory, View};
-use records::{Entry, Lot, Order, Part, Recipe, Row, Rows};
+use records::{Entry, Lot, Order, Part, Recipe, Record, SplitRecord};
 
 // One for each kind of record: a body says where the rows of its kind lie and nothing else, which a trait would only move elsewhere.
 impl View<'_> {

@@ -6,8 +6,9 @@ ghost use Rattle.memory.specs.Lent.{WideAlone};
 
 use crate::lent::{Memory, View};
 use layout::ACCOUNTS;
-use records::{Balance, Row, Stock};
+use records::{Balance, Record, Stock};
 
+// One for each kind of record: a body says where the rows of its kind lie, see `subjects.rt`.
 impl View<'_> {
     /// The kept sums of an account.
     #[tactic(auto, unfolding(crate::specs::Books::balance_of))]
@@ -17,7 +18,7 @@ impl View<'_> {
         if account < ACCOUNTS {
             Balance::read(self.wide, layout::balance_at(account))
         } else {
-            Balance { left: 0, right: 0 }
+            Balance::default()
         }
     }
 

@@ -1,4 +1,4 @@
-//! The words that begin a call.
+//! The words that begin a call, read one by one; `call_printing` writes them together, so that a table would serve neither.
 
 ghost use Rattle.std.specs.Prelude.{◌≡◌};
 ghost use Rattle.std.specs.Result.{result_map_both};

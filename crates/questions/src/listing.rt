@@ -19,8 +19,8 @@ pub fn line(lot: Lot) -> LotLine
     ensures { lot_told result ≡ lot_of lot }
 {
     LotLine {
-        item: lot.item as u64,
-        pieces: lot.pieces as u64,
+        item: u64::from(lot.item),
+        pieces: u64::from(lot.pieces),
         cost: lot.cost,
         document: lot.document,
     }
@@ -33,6 +33,7 @@ fn put_lots(view: View<'_>, item: u32, answer: &mut [u8]) -> u32
     ensures few { result ≤ view.entry.limits.lots }
     ensures lines { answer.new ≡ over (take 9 answer.old ++ flat_map lot_bytes (lots_met view.entry.limits item (seen view.entry))) answer.old }
 {
+    // Counted by hand: `enumerate` would count once more beside what is answered.
     let mut count: u32 = 0;
     for cell in view.limits.lot_rows().cells_of(view.narrow, item) {
         let _ = line(view.lot(cell)).put(answer, count as usize);
@@ -49,6 +50,6 @@ pub fn write_lots(view: View<'_>, item: u32, answer: &mut [u8]) -> Option<usize>
         return None;
     }
     let count = put_lots(view, item, answer);
-    let _ = LotLine::begin(answer, count as u64);
+    let _ = LotLine::begin(answer, u64::from(count));
     Some(ONE_FIELD + ROW_OF_FOUR * count as usize)
 }

@@ -11,7 +11,7 @@ fn plus(stock: Stock, lot: Lot) -> Stock
     ensures { result ≡ plus stock lot }
 {
     Stock {
-        pieces: stock.pieces.saturating_add(lot.pieces as u64),
+        pieces: stock.pieces.saturating_add(u64::from(lot.pieces)),
         worth: stock.worth.saturating_add(lot.cost),
     }
 }

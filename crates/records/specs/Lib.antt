@@ -1,3 +1,4 @@
+pub mod Accounts
 pub mod State
 pub mod Kind
 pub mod Kinds

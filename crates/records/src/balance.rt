@@ -6,7 +6,7 @@ ghost use Rattle.records.specs.Kind.{word};
 ghost use Rattle.records.specs.Kinds.{balance_kind};
 ghost use Rattle.records.specs.Sound.{balance_sound, wide_alike};
 
-use super::row::Row;
+use super::record::Record;
 
 /// The sums of an account's entries, on its left and on its right.
 #[derive(Clone, Copy, PartialEq, Eq, Debug, Default)]
@@ -15,7 +15,7 @@ pub struct Balance {
     pub right: u64,
 }
 
-impl Row<u64, 2> for Balance {
+impl Record<u64, 2> for Balance {
     ghost words = { balance_kind.wide_words };
 
     ghost made = { λ f. balance_kind.made f (word [] 0) };

@@ -5,7 +5,7 @@ ghost use Rattle.std.proofs.Common.{rules};
 ghost use Rattle.records.specs.Kinds.{entry_kind};
 ghost use Rattle.records.specs.Sound.{entry_sound};
 
-use super::rows::Rows;
+use super::split_record::SplitRecord;
 
 /// An amount on the left of one account and on the right of another.
 #[derive(Clone, Copy, PartialEq, Eq, Debug, Default)]
@@ -16,7 +16,7 @@ pub struct Entry {
     pub document: u64,
 }
 
-impl Rows for Entry {
+impl SplitRecord for Entry {
     ghost kind = { entry_kind };
 
     fn from_words(wide: &[u64; 2], narrow: &[u32; 2]) -> Entry {

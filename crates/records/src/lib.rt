@@ -5,25 +5,27 @@
 
 ghost use Rattle.records.specs.Kinds.{RecordLaws};
 
+mod account;
 mod balance;
 mod entry;
 mod lot;
 mod order;
 mod part;
 mod recipe;
-mod row;
-mod rows;
+mod record;
+mod split_record;
 mod stock;
 mod words;
 
+pub use account::Account;
 pub use balance::Balance;
 pub use entry::Entry;
 pub use lot::Lot;
 pub use order::Order;
 pub use part::Part;
 pub use recipe::Recipe;
-pub use row::Row;
-pub use rows::Rows;
+pub use record::Record;
+pub use split_record::SplitRecord;
 pub use stock::Stock;
 
 /// The laws of getting after putting, for each kind of record.

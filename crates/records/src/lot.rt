@@ -5,7 +5,7 @@ ghost use Rattle.std.proofs.Common.{rules};
 ghost use Rattle.records.specs.Kinds.{lot_kind};
 ghost use Rattle.records.specs.Sound.{lot_sound};
 
-use super::rows::Rows;
+use super::split_record::SplitRecord;
 
 /// So many pieces of an item, what they cost together, and the document that they came with.
 #[derive(Clone, Copy, PartialEq, Eq, Debug, Default)]
@@ -16,7 +16,7 @@ pub struct Lot {
     pub document: u64,
 }
 
-impl Rows for Lot {
+impl SplitRecord for Lot {
     ghost kind = { lot_kind };
 
     fn from_words(wide: &[u64; 2], narrow: &[u32; 2]) -> Lot {

@@ -6,7 +6,7 @@ ghost use Rattle.records.specs.Kind.{word};
 ghost use Rattle.records.specs.Kinds.{order_kind};
 ghost use Rattle.records.specs.Sound.{order_sound, narrow_alike};
 
-use super::row::Row;
+use super::record::Record;
 
 /// An order to buy or to sell; how many pieces have come or gone, and how many of these are billed.
 #[derive(Clone, Copy, PartialEq, Eq, Debug, Default)]
@@ -19,7 +19,7 @@ pub struct Order {
     pub billed: u32,
 }
 
-impl Row<u32, 6> for Order {
+impl Record<u32, 6> for Order {
     ghost words = { order_kind.narrow_words };
 
     ghost made = { order_kind.made (word [] 0) };

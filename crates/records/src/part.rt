@@ -6,7 +6,7 @@ ghost use Rattle.records.specs.Kind.{word};
 ghost use Rattle.records.specs.Kinds.{part_kind};
 ghost use Rattle.records.specs.Sound.{part_sound, narrow_alike};
 
-use super::row::Row;
+use super::record::Record;
 
 /// A part of a recipe: so many pieces of an item go into each piece that is made. In front of a recipe's parts stands one
 /// more, with the item that is made and the number of parts.
@@ -16,7 +16,7 @@ pub struct Part {
     pub each: u32,
 }
 
-impl Row<u32, 2> for Part {
+impl Record<u32, 2> for Part {
     ghost words = { part_kind.narrow_words };
 
     ghost made = { part_kind.made (word [] 0) };

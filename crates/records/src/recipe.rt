@@ -6,18 +6,18 @@ ghost use Rattle.records.specs.Kind.{word};
 ghost use Rattle.records.specs.Kinds.{recipe_kind};
 ghost use Rattle.records.specs.Sound.{recipe_sound, narrow_alike};
 
-use super::row::Row;
+use super::record::Record;
 
 /// Where the recipe of an item lies: one more than the index of its first row among the parts, or 0 where the item has no
 /// recipe; and how many parts it has.
-// No `Option`: the record is its two words in lent memory, where 0 says that there is none.
+// No `Option`: the record is its two words in lent memory, where 0 says that there is none; one more than the largest word has no place there.
 #[derive(Clone, Copy, PartialEq, Eq, Debug, Default)]
 pub struct Recipe {
     pub first: u32,
     pub parts: u32,
 }
 
-impl Row<u32, 2> for Recipe {
+impl Record<u32, 2> for Recipe {
     ghost words = { recipe_kind.narrow_words };
 
     ghost made = { recipe_kind.made (word [] 0) };

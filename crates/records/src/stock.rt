@@ -6,7 +6,7 @@ ghost use Rattle.records.specs.Kind.{word};
 ghost use Rattle.records.specs.Kinds.{stock_kind};
 ghost use Rattle.records.specs.Sound.{stock_sound, wide_alike};
 
-use super::row::Row;
+use super::record::Record;
 
 /// How many pieces of an item lie on hand, and what they cost together.
 #[derive(Clone, Copy, PartialEq, Eq, Debug, Default)]
@@ -15,7 +15,7 @@ pub struct Stock {
     pub worth: u64,
 }
 
-impl Row<u64, 2> for Stock {
+impl Record<u64, 2> for Stock {
     ghost words = { stock_kind.wide_words };
 
     ghost made = { λ f. stock_kind.made f (word [] 0) };

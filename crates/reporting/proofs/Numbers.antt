@@ -1,8 +1,8 @@
 -- Accounts in the order of their numbers. Assumes nothing.
 use Rattle.std.proofs.Common.{◌≡◌, ℕ, zero, suc, ◌<◌, List, [], ◌∷◌, get_or, refl, arith}
-use Rattle.reporting.specs.Accounts.{number_of}
-use Rattle.reporting.specs.declared.account.Account.{Account}
-use Rattle.reporting.specs.declared.account.Account.TheVariants.{Stock, NotBilled, Suppliers, Customers, Bank, Sales, CostOfSales, Differences, Losses}
+use Rattle.records.specs.Accounts.{number_of}
+use Rattle.records.specs.declared.account.Account.{Account}
+use Rattle.records.specs.declared.account.Account.TheVariants.{Stock, NotBilled, Suppliers, Customers, Bank, Sales, CostOfSales, Differences, Losses}
 
 abbrev pub all : List Account
 all = Stock ∷ NotBilled ∷ Suppliers ∷ Customers ∷ Bank ∷ Sales ∷ CostOfSales ∷ Differences ∷ Losses ∷ []

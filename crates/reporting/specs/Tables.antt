@@ -1,9 +1,10 @@
 -- The three tables, of a firm. Definitions only: nothing is assumed.
-use Rattle.std.specs.Prelude.{ℕ, ◌+◌, ◌-◌, cond, List, [], ◌∷◌, ◌++◌, length, codes, ◌==◌, nat_lt, slice_index_or}
+use Rattle.std.specs.Prelude.{ℕ, ◌+◌, ◌-◌, cond, List, [], ◌∷◌, ◌++◌, length, codes, ◌==◌, nat_lt}
 use Rattle.firm.specs.Stock.{on_hand, worth}
 use Rattle.firm.specs.Ledger.{left_side, right_side}
 use Rattle.firm.specs.Firm.{Firm, Order, the_order}
 use Rattle.firm.specs.Calls.{Limits}
+use Rattle.records.specs.Accounts.{account_name}
 use Rattle.reporting.specs.Columns.{aligned, cell, cells, rows_to}
 use Rattle.reporting.specs.declared.columns.Cell.{Cell}
 
@@ -24,22 +25,6 @@ unfoldable pub stock_table : Limits → Firm → List ℕ
 stock_table l f = stock_heading ++ rows_to (λ i. stock_row i (on_hand f.lots i) (worth f.lots i)) l.items
 
 -- ACCOUNTS: the number, both sides, by how much one is more and which, the name
-abbrev pub account_names : List (List ℕ)
-account_names =
-    codes "stock"
-    ∷ codes "goods received and not billed"
-    ∷ codes "owed to suppliers"
-    ∷ codes "owed by customers"
-    ∷ codes "bank"
-    ∷ codes "sales"
-    ∷ codes "cost of sales"
-    ∷ codes "differences of price"
-    ∷ codes "losses"
-    ∷ []
-
-unfoldable pub account_name : ℕ → List ℕ
-account_name a = slice_index_or account_names a []
-
 abbrev pub side : ℕ → ℕ → List ℕ
 side x y = cond (nat_lt y x) (codes "left") (cond (nat_lt x y) (codes "right") (codes "even"))
 

@@ -17,7 +17,7 @@ fn put_by(out: &mut String, count: u64, number: usize) -> Result<(), AllocError>
     write!(out, "; {count} by {number}")
 }
 
-// Appends how many were turned away by each refusal.
+// Appends how many were turned away by each refusal, by its number, as the line names it.
 fn put_refusals(out: &mut String, tally: &Tally) -> Result<(), AllocError>
     ensures { OnOk result (string_bytes out.new ≡ string_bytes out.old ++ rows_to (λ n. by_shown (slice_index tally.now.by n) n) 10) }
 {

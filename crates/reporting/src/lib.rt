@@ -2,7 +2,6 @@
 
 #![tactic(auto)]
 
-mod account;
 mod accounts;
 mod calls;
 mod columns;

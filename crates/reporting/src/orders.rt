@@ -12,7 +12,7 @@ use memory::View;
 use records::Order;
 use std::alloc::AllocError;
 
-// What an order is, in its column.
+// What an order is, in its column, see `heavier`.
 #[tactic(auto, unfolding(crate::specs::Columns::aligned))]
 fn kind(order: Order) -> &'static str
     ensures { result.now ≡ aligned 6 (kind (order_of order)) }
@@ -37,6 +37,7 @@ fn put_row(out: &mut String, number: u32, order: Order) -> Result<(), AllocError
     )
 }
 
+// A loop of its own, see `accounts.rt`.
 /// Appends the table of orders: all of them.
 pub fn put_orders(out: &mut String, view: View<'_>) -> Result<(), AllocError>
     ensures { OnOk result (string_bytes out.new ≡ string_bytes out.old ++ orders_seen view.entry.limits view.entry.narrow.now) }

@@ -37,6 +37,7 @@ fn put_item(out: &mut String, view: View<'_>, item: u32) -> Result<(), AllocErro
     put_row(out, item, pieces, worth)
 }
 
+// A loop of its own, see `accounts.rt`.
 /// Appends the table of stock: each item that has pieces.
 pub fn put_stock(out: &mut String, view: View<'_>) -> Result<(), AllocError>
     ensures { OnOk result (string_bytes out.new ≡ string_bytes out.old ++ stock_seen view.entry.limits (seen view.entry)) }

@@ -1,4 +1,5 @@
 pub mod Outcome
+pub mod Refused
 pub mod Checks
 pub mod Totals
 pub mod Buying

@@ -10,6 +10,7 @@ use crate::refused::Refused;
 use memory::View;
 use wire::Refusal;
 
+// Two numbers each, as they are answered, and no struct of each kind.
 /// Pieces and cost of an item.
 pub fn stock_of(view: View<'_>, item: u64) -> Result<(u64, u64), Refused>
     ensures { paired result ≡ stock_told view.entry.limits item (seen view.entry) }
@@ -40,5 +41,5 @@ pub fn order(view: View<'_>, order: u64) -> Result<(u64, u64), Refused>
         return Err(Refused::first(Refusal::NoSuchOrder));
     };
     let known = view.order(number);
-    Ok((known.moved as u64, known.billed as u64))
+    Ok((u64::from(known.moved), u64::from(known.billed)))
 }

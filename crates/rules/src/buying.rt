@@ -42,5 +42,5 @@ pub fn buys(memory: &mut Memory<'_>, item: u64, pieces: u64, price: u64) -> Resu
         return Err(Refused::first(Refusal::OverLimits));
     };
     raise(memory, Total::Documents, 1);
-    Ok(number as u64)
+    Ok(u64::from(number))
 }

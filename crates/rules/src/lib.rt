@@ -1,5 +1,6 @@
 //! The rules of the books: for each call the checks in their order, which only read, and then its steps, which only write.
-//! A call that is refused leaves every word as it was. A check is a `let .. else` of its own, with its refusal beside it: the rule as an office would read it.
+//! A call that is refused leaves every word as it was. A check is a `let .. else` of its own, as the project asks, with its
+//! refusal beside it: the rule as an office would read it.
 
 #![tactic(auto)]
 

@@ -15,7 +15,7 @@ fn limit(words: &[u64], k: usize, most: u32) -> Option<u32>
     at_most(get(words, k), most)
 }
 
-// No `TryFrom`: `Limits` is another crate's, and so is the slice; there is one reason, so `None` says it.
+// No `TryFrom`: it would have to stand in `layout`, which knows nothing of C; there is one reason, so `None` says it.
 /// Limits from a list of numbers: a shorter list means 0 for the rest, and a longer one is out of range.
 pub fn limits_from(words: &[u64]) -> Option<Limits>
     ensures { result ≡ limits_read words.now }

@@ -17,22 +17,22 @@ use memory::{Memory, View};
 use rules::Refused;
 use wire::{Call, Refusal};
 
-// That there is room for an answer is asked of three functions here: it ties the limits to other bytes, so that a struct would have to lend both.
+// That there is room for an answer is asked of three functions here, and of one in `questions`: it ties the limits to other bytes, so that a struct would have to lend both.
 fn say_lots(view: View<'_>, item: u64, out: &mut [u8]) -> usize
     requires { answer_need view.limits ≤ length out.old }
     ensures { Said (lots_told view.entry.limits item (seen view.entry)) result out.old out.new }
 {
-    let Some(item) = rules::known_item(view.limits, item) else {
-        return say(Refused::first(Refusal::BadField), out);
-    };
-    questions::write_lots(view, item, out).unwrap_or(0)
+    match rules::known_item(view.limits, item) {
+        Some(item) => questions::write_lots(view, item, out).unwrap_or(0),
+        None => say(Refused::first(Refusal::BadField), out),
+    }
 }
 
 // Why a recipe is turned away: it is not done yet, or the bytes of its parts are no parts.
 fn recipe_refusal(parts: &[u8]) -> Refusal
     ensures { refusal_number result ≡ (if are_parts parts.now then 2 else 1) }
 {
-    if parts.len() % 16 == 0 && parts.len() / 16 < 256 {
+    if wire::are_parts(parts) {
         Refusal::BadField
     } else {
         Refusal::Unreadable
@@ -89,7 +89,7 @@ fn answer_row(memory: &mut Memory<'_>, row: &[u8], out: &mut [u8]) -> usize
     }
 }
 
-// Whether limits are good, and memory of so many words and an answer of so many bytes are as large as they ask for.
+// Whether and not why, as `find_room` of `memory` says, which knows no answer. Limits are good, and memory of so many words and an answer of so many bytes are as large as they ask for.
 fn holds(limits: Limits, wide: usize, narrow: usize, out: usize) -> bool
     ensures exact { result ≡ holds limits wide narrow out }
     ensures room { T result → answer_need limits ≤ out }

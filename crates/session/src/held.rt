@@ -1,12 +1,13 @@
 //! Books in memory of their own, of just the size that their limits ask for.
 
-ghost use Rattle.std.specs.Prelude.{◌≡◌, ◌≤◌, true, length, take, IfOk, MatchResult};
+ghost use Rattle.std.specs.Prelude.{◌≡◌, true, length, option_copied, option_map, IfOk, MatchResult};
+ghost use Rattle.std.specs.Borrow.{sem};
+ghost use Rattle.std.specs.Io.BufRead.{Rests};
 ghost use Rattle.layout.specs.Layout.{Good, is_good};
 ghost use Rattle.memory.specs.Books.{limits_in};
 ghost use Rattle.memory.specs.Lent.{seen};
-ghost use Rattle.session.specs.Calling.{called_of, called, Fits};
-ghost use Rattle.session.specs.Held.{words_of, room_of, Fresh, unheld};
-ghost use Rattle.wire.specs.Calls.{call_of};
+ghost use Rattle.session.specs.Held.{words_of, call_on, answer_in, HasLeft, Fresh, unheld};
+ghost use Rattle.session.specs.contracts.held.Held.{the_row};
 
 use crate::calling::call;
 use crate::error::RunError;
@@ -50,21 +51,16 @@ impl Held {
         Ok(Held::open_good(heap, limits)?)
     }
 
-    /// Does one call: the length of its answer.
-    pub fn call(&mut self, row: &[u8]) -> Option<usize>
-        ensures does { called_of result (words_of self.new) self.new.answer.items ≡ called (call_of row.now) (words_of self.old) self.old.answer.items }
-        ensures fits { Fits result self.new.answer.items }
-        ensures room { room_of self.new ≡ room_of self.old }
+    /// Does one call, and gives the bytes of its answer.
+    pub fn call(&mut self, row: &[u8]) -> Option<&[u8]>
+        ensures* does { sem 𝓛 (Rests the_row self.entry (HasLeft self.old row.now)) }
+        ensures answer { option_copied result ≡ answer_in (call_on self.old row.now) }
+        ensures whole { option_map (λ a. length a.now) result ≡ (call_on self.old row.now).came }
     {
-        call(&mut self.wide, &mut self.narrow, row, &mut self.answer)
+        let length = call(&mut self.wide, &mut self.narrow, row, &mut self.answer)?;
+        Some(&self.answer[..length])
     }
 
-    /// The first bytes of the answer to the last call, as many as it has.
-    pub fn answer(&self, length: usize) -> &[u8]
-        ensures { result.now ≡ take length self.now.answer.items }
-    {
-        &self.answer[0..length.min(self.answer.len())]
-    }
     /// What is there to be read.
     pub fn view(&self) -> View<'_>
         ensures words { seen result ≡ words_of self.now }

@@ -14,16 +14,11 @@ fn first_row(bytes: &[u8]) -> (&[u8], &[u8])
     ensures shorter { 0 < length bytes.now → length result.1.now < length bytes.now }
 {
     let Some(size) = fields::leading_field(bytes) else {
-        let n = bytes.len();
-        return (&bytes[n..], &bytes[n..]);
+        return (&[], &[]);
     };
     let body = &bytes[FIELD..];
-    let k = if size < body.len() as u64 {
-        size as usize
-    } else {
-        body.len()
-    };
-    (&body[0..k], &body[k..])
+    let size = usize::try_from(size).unwrap_or(usize::MAX);
+    body.split_at(size.min(body.len()))
 }
 
 /// The rows of bytes, one after the other.

@@ -16,8 +16,8 @@ fn answer_row(held: &mut Held, row: &[u8], out: &mut Vec<u8>) -> Result<(), Allo
     ensures done { OnOk result (row_done (words_of held.new) held.new.answer.items out.new.items ≡ row_answered row.now (words_of held.old) held.old.answer.items out.old.items) }
     ensures room { OnOk result (room_of held.new ≡ room_of held.old) }
 {
-    if let Some(length) = held.call(row) {
-        put_row(out, held.answer(length))?;
+    if let Some(answer) = held.call(row) {
+        put_row(out, answer)?;
     }
     Ok(())
 }

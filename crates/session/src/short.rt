@@ -64,7 +64,7 @@ impl<S: Short> Short for Result<S, Refused> {
     }
 }
 
-/// Writes an answer that has room: its length.
+/// Writes an answer that has room: its length, which is what C is answered.
 pub fn say<S: Short>(said: S, out: &mut [u8]) -> usize
     requires { 17 ≤ length out.old }
     ensures { Said (S.told said) result out.old out.new }

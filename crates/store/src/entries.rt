@@ -49,7 +49,8 @@ pub fn nth_entry(view: View<'_>, account: u32, index: u32) -> Option<Entry>
     Some(view.entry(cell / 2))
 }
 
-/// The first of the cells of the entries of an account, for a walk.
+// Lots, orders and entries have such functions each: a line that names the rows that it is about.
+/// The first of the cells of the entries of an account.
 pub fn first_entry(view: View<'_>, account: u32) -> Option<u32>
     ensures { result ≡ first_entry view.entry.limits account view.entry.narrow.now }
 {

@@ -19,6 +19,7 @@ pub use recipes::{add_part, add_recipe};
 pub use refusal::Refusal;
 
 /// What each function means for the lists of lots, orders, entries and parts: it changes the one that it is about, and no other.
+#[tactic(auto, using(crate::proofs::Opening::store_laws))]
 pub fn store_stands()
     ensures { StoreLaws }
 {}

@@ -111,7 +111,8 @@ pub fn nth_lot(view: View<'_>, item: u32, index: u32) -> Option<Lot>
     Some(view.lot(cell))
 }
 
-/// The first of the cells of the lots of an item, for a walk.
+// A line that names its rows, see `entries.rt`.
+/// The first of the cells of the lots of an item.
 pub fn first_lot(view: View<'_>, item: u32) -> Option<u32>
     ensures { result ≡ first_lot view.entry.limits item view.entry.narrow.now }
 {

@@ -50,7 +50,8 @@ pub fn nth_order(view: View<'_>, item: u32, index: u32) -> Option<u32>
     nth(view.narrow, limits.order_rows(), limits.items, item, index)
 }
 
-/// The first of the orders of an item, for a walk.
+// A line that names its rows, see `entries.rt`.
+/// The first of the orders of an item.
 pub fn first_order(view: View<'_>, item: u32) -> Option<u32>
     ensures { result ≡ first_order view.entry.limits item view.entry.narrow.now }
 {

@@ -15,7 +15,7 @@ pub fn cost_of(view: View<'_>, want: Want) -> u64
     if want.item >= view.limits.items {
         return 0;
     }
-    // A loop and not a `fold`: it ends at the last lot that is asked for.
+    // A loop and not a `fold`: it ends at the last lot that is asked for. `try_fold` would carry both numbers in a pair and end by an error.
     let mut left = want.pieces;
     let mut cost: u64 = 0;
     for cell in view.limits.lot_rows().cells_of(view.narrow, want.item) {
@@ -23,7 +23,7 @@ pub fn cost_of(view: View<'_>, want: Want) -> u64
             return cost;
         }
         let part = part_of(view.lot(cell), left);
-        left -= part.pieces as u64;
+        left -= u64::from(part.pieces);
         cost = cost.saturating_add(part.cost);
     }
     cost

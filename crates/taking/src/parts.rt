@@ -19,12 +19,12 @@ pub fn part_of(lot: Lot, wanted: u64) -> Lot
     ensures value { result ≡ part_of lot wanted }
     ensures few { result.pieces ≤ wanted }
 {
-    if lot.pieces as u64 <= wanted {
+    if u64::from(lot.pieces) <= wanted {
         return lot;
     }
     Lot {
         pieces: wanted as u32,
-        cost: share(lot.cost, wanted, lot.pieces as u64),
+        cost: share(lot.cost, wanted, u64::from(lot.pieces)),
         ..lot
     }
 }

@@ -45,7 +45,7 @@ fn take_each(memory: &mut Memory<'_>, wants: &[Want], answer: &mut [u8]) -> Take
                 continue 'wants;
             };
             taken = put_part(answer, taken, part);
-            left -= part.pieces as u64;
+            left -= u64::from(part.pieces);
         }
     }
     taken
@@ -59,6 +59,6 @@ pub fn take_all(memory: &mut Memory<'_>, wants: &[Want], answer: &mut [u8]) -> T
     ensures answer { tally answer.new result ≡ told (take_all memory.old.limits wants.now (words memory.old)).parts answer.old }
 {
     let taken = take_each(memory, wants, answer);
-    let _ = LotLine::begin(answer, taken.lines as u64);
+    let _ = LotLine::begin(answer, u64::from(taken.lines));
     taken
 }

@@ -45,10 +45,7 @@ mod tests {
 
     fn check_line(rt: &impl Abort, lines: &[u8], k: usize, want: Lot) -> Result<(), Fail> {
         let line = LotLine::nth(lines, k).ok_or("no line")?;
-        assert_eq!(rt; line.item, want.item as u64);
-        assert_eq!(rt; line.pieces, want.pieces as u64);
-        assert_eq!(rt; line.cost, want.cost);
-        assert_eq!(rt; line.document, want.document);
+        assert_eq!(rt; line, questions::line(want));
         Ok(())
     }
 

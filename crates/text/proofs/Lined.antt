@@ -1,5 +1,5 @@
 -- One line: what its call does to memory that stands for a firm, and what is written. Assumes nothing.
-use Rattle.std.proofs.Common.{◌≡◌, ℕ, ◌≤◌, true, false, List, [], ◌∷◌, ◌++◌, length, take, drop, Some, None, Option, sym, ap, ◌∙◌, subst, append_assoc, append-nil, arith, length-append}
+use Rattle.std.proofs.Common.{◌≡◌, ℕ, true, false, List, [], ◌∷◌, ◌++◌, length, take, drop, Some, None, Option, refl, sym, ap, ◌∙◌, subst, append_assoc, append-nil, arith}
 use Rattle.std.proofs.lemmas.List.{take_at}
 use Rattle.std.proofs.lemmas.Bool.{cond-true, cond-false}
 use Rattle.fields.specs.Written.{over}
@@ -7,8 +7,9 @@ use Rattle.firm.specs.Firm.{Firm}
 use Rattle.firm.specs.Calls.{Call, Answer, Limits, refused, garbled}
 use Rattle.firm.specs.Answers.{after, answer, answers, ran}
 use Rattle.records.specs.State.{State}
-use Rattle.session.specs.Calling.{called_of, called}
-use Rattle.session.specs.Means.{limits_of}
+use Rattle.session.specs.Calling.{Called, called}
+use Rattle.session.specs.Held.{answer_in}
+use Rattle.session.specs.Means.{limits_of, Means}
 use Rattle.session.proofs.Asking.{garbled_done}
 use Rattle.session.proofs.Called.{Answered, called_means}
 use Rattle.session.proofs.Keeping.{done_means, reached_after}
@@ -24,45 +25,47 @@ use Rattle.text.specs.Run.{calls_in, printed}
 use Rattle.text.specs.Standing.{Standing, GoneOn, CallDone, CallsDone}
 use Rattle.text.proofs.Carried.{carried}
 
--- what is written over is no longer than what there is then
-pub over_long : (row old : List ℕ) → length row ≤ length (over row old)
+take_over : (row old : List ℕ) → take (length row) (over row old) ≡ row
 unfolding over
-over_long row old = omega (arith, length-append row (drop (length row) old))
+take_over row old = take_at row (drop (length row) old) (length row) refl
 
-pub take_over : (row old : List ℕ) (n : ℕ) → length row ≡ n → take n (over row old) ≡ row
-unfolding over
-take_over row old n e = take_at row (drop (length row) old) n e
+-- what a call does, on memory that stands for a firm
+module _ (row old : List ℕ) (s : State) where
+  abbrev pub does : Called
+  does = called (call_of row) s old
 
--- what `call` returned, on memory that stands for a firm
-module _ (row old bytes : List ℕ) (s t : State) (r : Option ℕ) (is : called_of r t bytes ≡ called (call_of row) s old) where
   module _ (l : Limits) (f : Firm) (c : Call) (h : Standing l f s (length old)) (send : Sendable c) (e : row ≡ bytes_of_call c) where
-    pub means : Answered l f c old (called_of r t bytes)
+    means : Answered l f c old does
     means =
-        subst (Answered l f c old) (sym (is ∙ ap (λ (d : Call). called d s old) (ap call_of e ∙ comes_back c send)))
+        subst (λ (d : Call). Answered l f c old (called d s old)) (sym (ap call_of e ∙ comes_back c send))
         (called_means l s f c old h.good h.cans h.reached h.means h.enough)
 
-    stands : Standing l (after l f c) t (length old)
-    stands = record { good = h.good; cans = h.cans; reached = reached_after l f c h.reached; means = means.means; enough = h.enough }
+    gives : answer_in does ≡ Some (bytes_of_answer (answer l f c))
+    gives = rw (means.came, means.bytes) (ap Some (take_over (bytes_of_answer (answer l f c)) old))
 
-    pub carries_it : carries (answer l f c) ≡ true
-    carries_it =
-        subst (λ (a : Answer). carries a ≡ true) (done_means l s f h.good h.cans h.reached h.means c).says
-        (carried (limits_of l) s h.means.sized h.good c send.1)
+    -- the bytes that it gives are those of the meaning's answer
+    pub reads : (a : List ℕ) → Some a ≡ answer_in does → answer_of a ≡ Some (answer l f c)
+    reads a is =
+        let same : a ≡ bytes_of_answer (answer l f c) = cc gives in
+        ap answer_of same ∙ answer_comes_back (answer l f c) carries_it
+      where
+        carries_it : carries (answer l f c) ≡ true
+        carries_it =
+            subst (λ (a : Answer). carries a ≡ true) (done_means l s f h.good h.cans h.reached h.means c).says
+            (carried (limits_of l) s h.means.sized h.good c send.1)
 
-  -- nothing: not on such memory
-  pub none_came : (out : List ℕ) → r ≡ None → CallDone row s t (length old) out out
-  none_came out none l f c h send e = let z : ◌≡◌ {A = ℕ} 0 1 = cc (means l f c h send e).came in absurd (omega arith)
+    -- it always gives some
+    pub never_none : None ≡ answer_in does → ⊥
+    never_none is = let z : ◌≡◌ {A = ℕ} 0 1 = cc gives in absurd (omega arith)
 
-  pub some_came : (n m : ℕ) (out end : List ℕ) → r ≡ Some n → m ≡ n → end ≡ out ++ shown_if (answer_of (take m bytes)) → CallDone row s t (length old) out end
-  some_came n m out end some same wrote l f c h send e =
-      let a = means l f c h send e in
-      let came : length (bytes_of_answer (answer l f c)) ≡ m = cc a.came in
+  pub none_came : (t : State) (out : List ℕ) → None ≡ answer_in does → CallDone row s t (length old) out out
+  none_came t out none l f c h send e = absurd (never_none l f c h send e none)
+
+  pub some_came : (t : State) (a out end : List ℕ) → t ≡ does.left → Some a ≡ answer_in does → end ≡ out ++ shown_if (answer_of a) → CallDone row s t (length old) out end
+  some_came t a out end left some wrote l f c h send e =
       record {
-        standing = stands l f c h send e;
-        text =
-            wrote
-            ∙ ap (λ (bs : List ℕ). out ++ shown_if (answer_of bs)) (ap (take m) a.bytes ∙ take_over (bytes_of_answer (answer l f c)) old m came)
-            ∙ ap (λ (o : Option Answer). out ++ shown_if o) (answer_comes_back (answer l f c) (carries_it l f c h send e));
+        standing = record { good = h.good; cans = h.cans; reached = reached_after l f c h.reached; means = subst (λ (u : State). Means (limits_of l) u (after l f c)) (sym left) (means l f c h send e).means; enough = h.enough };
+        text = wrote ∙ ap (λ (o : Option Answer). out ++ shown_if o) (reads l f c h send e a some);
       }
 
 -- the line feed behind an answer

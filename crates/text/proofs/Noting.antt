@@ -1,14 +1,13 @@
 -- The tally along a text: what a line does to it, and the lines together. Assumes nothing.
-use Rattle.std.proofs.Common.{◌≡◌, ℕ, true, false, List, [], ◌∷◌, ◌++◌, length, take, Some, None, Option, sym, refl, ap, ◌∙◌, subst, arith}
+use Rattle.std.proofs.Common.{◌≡◌, ℕ, true, false, List, [], ◌∷◌, ◌++◌, length, Some, None, Option, sym, refl, ap, ◌∙◌, subst}
 use Rattle.std.proofs.lemmas.Bool.{cond-true, cond-false}
 use Rattle.firm.specs.Calls.{Call, Answer, refused, garbled}
 use Rattle.firm.specs.Answers.{answer, answers, ran}
 use Rattle.records.specs.State.{State}
-use Rattle.session.specs.Calling.{called_of, called}
+use Rattle.session.specs.Held.{answer_in}
 use Rattle.session.proofs.Asking.{garbled_done}
-use Rattle.wire.specs.Answers.{bytes_of_answer, answer_of}
-use Rattle.wire.specs.Calls.{Sendable, bytes_of_call, call_of}
-use Rattle.wire.proofs.AnswerLaws.{answer_comes_back}
+use Rattle.wire.specs.Answers.{answer_of}
+use Rattle.wire.specs.Calls.{Sendable, bytes_of_call}
 use Rattle.call_lines.specs.Lines.{call_in_line}
 use Rattle.text.specs.Lines.{bare, quiet, heard, lines}
 use Rattle.text.specs.Noting.{CallNoted, CallsNoted}
@@ -17,21 +16,15 @@ use Rattle.text.specs.Standing.{CallsDone}
 use Rattle.text.specs.Tallies.{noted, noted_if, tallied}
 use Rattle.text.specs.declared.tally.Tally.{Tally}
 use Rattle.text.proofs.Going.{answers_append, calls_after, calls_after_more}
-use Rattle.text.proofs.Lined.{means, carries_it, take_over}
+use Rattle.text.proofs.Lined.{does, reads, never_none}
 
--- what `call` returned, on memory that stands for a firm
-module _ (row old bytes : List ℕ) (s t : State) (r : Option ℕ) (is : called_of r t bytes ≡ called (call_of row) s old) where
-  -- nothing: not on such memory
-  pub none_noted : (before : Tally) → r ≡ None → CallNoted row s (length old) before before
-  none_noted before none l f c h send e = let z : ◌≡◌ {A = ℕ} 0 1 = cc (means row old bytes s t r is l f c h send e).came in absurd (omega arith)
+-- what a call does, on memory that stands for a firm
+module _ (row old : List ℕ) (s : State) where
+  pub none_noted : (before : Tally) → None ≡ answer_in (does row old s) → CallNoted row s (length old) before before
+  none_noted before none l f c h send e = absurd (never_none row old s l f c h send e none)
 
-  pub some_noted : (n m : ℕ) (before after : Tally) → r ≡ Some n → m ≡ n → after ≡ noted_if (answer_of (take m bytes)) before → CallNoted row s (length old) before after
-  some_noted n m before after some same counted l f c h send e =
-      let a = means row old bytes s t r is l f c h send e in
-      let came : length (bytes_of_answer (answer l f c)) ≡ m = cc a.came in
-      counted
-      ∙ ap (λ (bs : List ℕ). noted_if (answer_of bs) before) (ap (take m) a.bytes ∙ take_over (bytes_of_answer (answer l f c)) old m came)
-      ∙ ap (λ (o : Option Answer). noted_if o before) (answer_comes_back (answer l f c) (carries_it row old bytes s t r is l f c h send e))
+  pub some_noted : (a : List ℕ) (before after : Tally) → Some a ≡ answer_in (does row old s) → after ≡ noted_if (answer_of a) before → CallNoted row s (length old) before after
+  some_noted a before after some counted l f c h send e = counted ∙ ap (λ (o : Option Answer). noted_if o before) (reads row old s l f c h send e a some)
 
 -- A LINE that is a call, and one that is none
 pub call_noted : (line row : List ℕ) (s : State) (room : ℕ) (before after : Tally) → CallNoted row s room before after → row ≡ bytes_of_call (call_in_line line) → Sendable (call_in_line line) →

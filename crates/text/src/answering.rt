@@ -17,19 +17,18 @@ ghost use Rattle.text.specs.Tallies.{noted};
 use crate::books::Books;
 use crate::lines::{bare, is_quiet};
 use crate::tally::Tally;
-use answer_lines::{ShowError, show_answer};
+use answer_lines::{ShowError, put_refusal, show_answer};
 use call_lines::{LineError, read_line};
 use std::alloc::AllocError;
 use wire::Refusal;
-use words::put_number;
 
 // Appends what a line is answered that is no call: where it ceases to be one.
+#[tactic(auto, unfolding(answer_lines::specs::Shown::shown))]
 fn put_misfit(out: &mut Vec<u8>, place: usize, tally: &mut Tally) -> Result<(), AllocError>
     ensures done { OnOk result (out.new.items ≡ out.old.items ++ shown (refused 1 place)) }
     ensures counted { OnOk result (tally.new ≡ noted tally.old (refused 1 place)) }
 {
-    out.extend_from_slice(b"refused 1 at ")?;
-    put_number(out, place as u64)?;
+    put_refusal(out, Refusal::Unreadable, place as u64)?;
     tally.refuse(Refusal::Unreadable);
     Ok(())
 }
@@ -51,8 +50,7 @@ impl Books {
         ensures counted { OnOk result (CallNoted self.old.call.items (memory_of self.old) (room_of self.old.held) self.old.tally self.new.tally) }
         ensures room { OnOk result (room_of self.new.held ≡ room_of self.old.held) }
     {
-        if let Some(count) = self.held.call(self.call.as_slice()) {
-            let answer = self.held.answer(count);
+        if let Some(answer) = self.held.call(self.call.as_slice()) {
             put_answer(out, answer)?;
             self.tally.note(answer);
         }

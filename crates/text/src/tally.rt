@@ -5,9 +5,9 @@ ghost use Rattle.wire.specs.Answers.{answer_of};
 ghost use Rattle.wire.specs.Told.{refusal_number, told};
 ghost use Rattle.text.specs.Tallies.{no_tally, with_taken, with_refused, with_lines, noted_if};
 
-use fields::ROW_OF_FOUR;
-use wire::{Answer, Refusal, read_answer};
+use wire::{Answer, EntryLine, Line, LotLine, Refusal, read_answer};
 
+// A place for each number and not a map by refusal: a report names refusals by number.
 /// Refusals have the numbers below this.
 pub const REFUSALS: usize = 10;
 
@@ -38,10 +38,10 @@ impl Tally {
     }
 
     // A list was answered, if its lines are whole.
-    fn take_lines(&mut self, lines: &[u8])
+    fn take_lines<L: Line>(&mut self, lines: &[u8])
         ensures { self.new ≡ with_lines lines.now self.old }
     {
-        if lines.len() % ROW_OF_FOUR == 0 {
+        if L::whole(lines) {
             self.take();
         }
     }
@@ -60,7 +60,8 @@ impl Tally {
         match answer {
             Answer::Refused(refusal, _) => self.refuse(refusal),
             Answer::Number(_) | Answer::Two(_, _) => self.take(),
-            Answer::Lots(lines) | Answer::Entries(lines) => self.take_lines(lines),
+            Answer::Lots(lines) => self.take_lines::<LotLine>(lines),
+            Answer::Entries(lines) => self.take_lines::<EntryLine>(lines),
         }
     }
 

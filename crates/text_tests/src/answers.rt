@@ -11,7 +11,7 @@ use words::same;
 fn shows(rt: &impl Abort, heap: Global, bytes: &[u8], text: &[u8]) -> Result<(), Fail> {
     let mut out = Vec::new(heap);
     assert_eq!(rt; show_answer(&mut out, bytes), Ok(()));
-    assert!(rt; same(out.as_slice(), text));
+    assert!(rt; out.as_slice() == text);
     Ok(())
 }
 

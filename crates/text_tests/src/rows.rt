@@ -4,7 +4,6 @@ use call_lines::{LineError, read_line};
 use std::alloc::{AllocError, Global};
 use std::process::Abort;
 use std::test::Fail;
-use words::same;
 
 /// A first byte, and fields of eight bytes behind it, low byte first.
 pub fn row(heap: Global, first: u8, fields: &[u64]) -> Result<Vec<u8>, AllocError> {
@@ -21,7 +20,7 @@ pub fn is_call(rt: &impl Abort, heap: Global, line: &[u8], bytes: &[u8]) -> Resu
     let mut call = Vec::new(heap);
     call.extend_from_slice(b"what was there before")?;
     assert_eq!(rt; read_line(line, &mut call), Ok(()));
-    assert!(rt; same(call.as_slice(), bytes));
+    assert!(rt; call.as_slice() == bytes);
     Ok(())
 }
 

@@ -11,7 +11,8 @@ use Rattle.firm.specs.Calls.{Answer}
 use Rattle.wire.specs.Rows.{rows}
 use Rattle.wire.specs.Answers.{list_head, if_sized, bytes_of_answer}
 use Rattle.wire.specs.Told.{if_lines, answer_row}
-use Rattle.wire.proofs.RowLaws.{length_rows, fields_again}
+use Rattle.wire.specs.Lines.{length_rows}
+use Rattle.wire.proofs.RowLaws.{fields_again}
 use Rattle.wire.proofs.Heads.{head_put}
 
 -- the lines behind a count

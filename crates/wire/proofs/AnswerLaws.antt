@@ -14,7 +14,8 @@ use Rattle.wire.specs.Answers.{list_head, bytes_of_answer, is_refusal, each, lot
 use Rattle.wire.specs.Statements.{AnswerComesBack, AnswerIsBytes}
 use Rattle.wire.proofs.Tables.{EachAt, found}
 use Rattle.wire.proofs.Forms.{fields_row, carried}
-use Rattle.wire.proofs.RowLaws.{length_rows, lots_again, entries_again}
+use Rattle.wire.specs.Lines.{length_rows}
+use Rattle.wire.proofs.RowLaws.{lots_again, entries_again}
 use Rattle.wire.proofs.ReadBack.{field_same, same_two, length_joined, length_lot, length_entry, lots_same, entries_same}
 
 refused_back : (n p : ℕ) → (is_refusal n && firm.field p) ≡ true → answer_of (bytes_of_answer (firm.refused n p)) ≡ Some (firm.refused n p)

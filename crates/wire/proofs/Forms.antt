@@ -11,7 +11,8 @@ use Rattle.wire.specs.Rows.{rows, part_in, part_bytes}
 use Rattle.wire.specs.Calls.{Form, one, two, three, recipe, none, forms, size, built, bytes_of_call}
 use Rattle.wire.specs.Statements.{IsCall}
 use Rattle.wire.proofs.Tables.{EachAt, found}
-use Rattle.wire.proofs.RowLaws.{length_rows, parts_again}
+use Rattle.wire.specs.Lines.{length_rows}
+use Rattle.wire.proofs.RowLaws.{parts_again}
 
 -- what the table says of the call with the number k
 abbrev pub Right : ℕ → Form → Type 0

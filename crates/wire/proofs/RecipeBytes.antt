@@ -1,6 +1,6 @@
 -- A recipe's bytes. Assumes nothing.
 use Rattle.std.proofs.Common.{◌≡◌, ℕ, suc, ◌+◌, ◌*◌, ◌/◌, ◌%◌, ◌<◌, ◌≤◌, true, cond, eqb, List, [], ◌∷◌, ◌++◌, length, get_or, drop, set, Some, None, Option, sym, ap, ◌∙◌, append_assoc, arith, length-append, length-drop}
-use Rattle.std.proofs.lemmas.Bool.{cond-true, eq-eqb, lt-ltb, and_from}
+use Rattle.std.proofs.lemmas.Bool.{cond-true, eq-eqb, eqb-true, lt-ltb, ltb-true, and_from, and_parts}
 use Rattle.fields.specs.Bytes.{field_at}
 use Rattle.firm.specs.Calls.{Call, made_of, garbled}
 use Rattle.wire.specs.Rows.{rows, part_in}
@@ -15,7 +15,8 @@ use Rattle.fields.proofs.Numbers.{length_field, length_fields}
 use Rattle.fields.proofs.Rows.{fits, too_long, over_byte, over_more}
 use Rattle.std.proofs.lemmas.List.{append-nil}
 use Rattle.wire.specs.Rows.{part_bytes}
-use Rattle.wire.proofs.RowLaws.{length_rows, parts_again}
+use Rattle.wire.specs.Lines.{length_rows}
+use Rattle.wire.proofs.RowLaws.{parts_again}
 use Rattle.wire.proofs.Heads.{head_put}
 
 pub parts_are : (bs : List ℕ) (n : ℕ) → length bs ≡ 16 * n → n < 256 → are_parts bs ≡ true
@@ -55,6 +56,13 @@ recipe_written : (i n : ℕ) (ps old : List ℕ) → Bytes ps → length ps ≡ 
 recipe_written i n ps old b l h =
     let t : cond (are_parts ps) (made_of i (parts_in ps)) (garbled 0) ≡ made_of i (parts_in ps) = cond-true (are_parts ps) _ _ (parts_are ps n l h) in
     sym (ap (λ (c : Call). row_written (bytes_of_call c) old) t ∙ ap (λ (bs : List ℕ). row_written bs old) (recipe_bytes i n ps b l))
+
+-- bytes that are parts are whole ones, and few
+pub parts_few : (bs : List ℕ) → are_parts bs ≡ true → (length bs ≡ 16 * (length bs / 16)) × (length bs / 16 < 256)
+parts_few bs e =
+    let b = and_parts _ _ e in
+    let w : length bs % 16 ≡ 0 = eqb-true (length bs % 16) 0 b.0 in
+    (omega (arith, w), ltb-true (length bs / 16) 256 b.1)
 
 pub recipe_too_long : (i n : ℕ) (ps old : List ℕ) → Bytes ps → length ps ≡ 16 * n → n < 256 → length old < 10 + length ps
     → wrote None old ≡ row_written (bytes_of_call (cond (are_parts ps) (made_of i (parts_in ps)) (garbled 0))) old

@@ -1,18 +1,14 @@
 -- Rows of fields: how many there are, the k-th, and that reading and writing undo each other. Assumes nothing.
-use Rattle.std.proofs.Common.{◌≡◌, ℕ, zero, suc, ◌+◌, ◌*◌, ◌/◌, ◌<◌, ◌≤◌, Bool, true, false, cond, ltb, List, ◌∷◌, ◌++◌, length, take, drop, Some, None, sym, refl, ap, ◌∙◌, ⊎_elim, mul-suc, arith, length-drop, take-append-drop}
+use Rattle.std.proofs.Common.{◌≡◌, ℕ, zero, suc, ◌+◌, ◌*◌, ◌/◌, ◌<◌, ◌≤◌, Bool, true, false, cond, ltb, List, ◌∷◌, ◌++◌, length, get_or, take, drop, Some, None, sym, refl, ap, ◌∙◌, ⊎_elim, mul-suc, arith, length-drop, take-append-drop}
 use Rattle.std.specs.List.{flat_map}
 use Rattle.std.proofs.lemmas.List.{drop-drop, nil_from_length}
 use Rattle.std.proofs.lemmas.Bool.{cond-true, cond-false, lt-ltb, le-ltb, cases_lt, cases_Bool}
 use Rattle.std.proofs.lemmas.Option.{none-some, cond_some}
-use Rattle.fields.specs.Bytes.{Bytes, value, field_at, all_fields, fields_from, nth_row}
+use Rattle.fields.specs.Bytes.{Bytes, all_fields, fields_from, rows_of, nth_row}
 use Rattle.fields.proofs.Numbers.{bytes_drop, fields_back}
+use Rattle.fields.proofs.Words.{fields_in}
 use Rattle.wire.specs.Lines.{part_by_fields, lot_by_fields, entry_by_fields}
 use Rattle.wire.specs.Rows.{rows, nth, part_in, part_bytes, lot_in, lot_bytes, entry_in, entry_bytes}
-
-pub length_rows : {A : Type 0} (read : List ℕ → A) (w n : ℕ) (bs : List ℕ) → length (rows read w n bs) ≡ n
-unfolding rows
-length_rows read w zero bs = refl
-length_rows read w (suc n) bs = ap suc (length_rows read w n (drop w bs))
 
 ltb_suc : (k n : ℕ) → ltb (suc k) (suc n) ≡ ltb k n
 ltb_suc k n =
@@ -31,13 +27,22 @@ nth_rows read w (suc n) (suc k) bs =
     nth_rows read w n k (drop w bs)
     ∙ ap (λ (xs : List ℕ). cond (ltb k n) (Some (read xs)) None) d ∙ ap (λ (t : Bool). cond t (Some (read (drop (w * suc k) bs))) None) (sym (ltb_suc k n))
 
-fields_in : (n j m : ℕ) (bs : List ℕ) → fields_from n j (drop m bs) ≡ fields_from n (m + j) bs
-unfolding field_at
-fields_in zero j m bs = refl
-fields_in (suc n) j m bs =
-    let e : m + (j + 8) ≡ m + j + 8 = omega arith in
-    ap (λ (xs : List ℕ). value (take 8 xs) ∷ fields_from n (j + 8) (drop m bs)) (drop-drop j m bs)
-    ∙ ap (λ (ns : List ℕ). value (take 8 (drop (m + j) bs)) ∷ ns) (fields_in n (j + 8) m bs ∙ ap (λ (i : ℕ). fields_from n i bs) e)
+-- the k-th of so many
+pub rows_at : {A : Type 0} (read : List ℕ → A) (w n k : ℕ) (bs : List ℕ) (d : A) → k < n → get_or (rows read w n bs) k d ≡ read (drop (w * k) bs)
+unfolding rows
+rows_at read w zero k bs d h = absurd (omega arith)
+rows_at read w (suc n) zero bs d h =
+    let z : 0 ≡ w * 0 = omega arith in
+    ap (λ (j : ℕ). read (drop j bs)) z
+rows_at read w (suc n) (suc k) bs d h =
+    let e : w + w * k ≡ w * suc k = omega (arith, mul-suc w k) in
+    rows_at read w n k (drop w bs) d (omega arith) ∙ ap read (drop-drop (w * k) w bs ∙ ap (λ (j : ℕ). drop j bs) e)
+
+-- rows of fields are rows
+pub field_rows : (n m : ℕ) (bs : List ℕ) → rows_of n m bs ≡ rows (fields_from n 0) (8 * n) m bs
+unfolding rows
+field_rows n zero bs = refl
+field_rows n (suc m) bs = ap (λ (x : List (List ℕ)). fields_from n 0 bs ∷ x) (field_rows n m (drop (8 * n) bs))
 
 -- the k-th row, if there is one
 module _ {A : Type 0} (read : List ℕ → A) (n k : ℕ) (bs : List ℕ) where

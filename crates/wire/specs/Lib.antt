@@ -4,5 +4,6 @@ pub mod Calls
 pub mod Said
 pub mod Answers
 pub mod Told
+pub mod Refusals
 pub mod Lines
 pub mod Statements

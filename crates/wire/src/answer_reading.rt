@@ -2,21 +2,21 @@ ghost use Rattle.std.specs.Prelude.{◌≡◌, ◌+◌, ◌*◌, length, drop, i
 ghost use Rattle.std.specs.Option.{option_map};
 ghost use Rattle.fields.specs.Bytes.{field_at};
 ghost use Rattle.wire.specs.Answers.{answer_as, answer_of};
-ghost use Rattle.wire.specs.Told.{answered, answer_number, lots_in, entries_in};
+ghost use Rattle.wire.specs.Told.{answered, answer_number};
 
-use crate::{Answer, AnswerKind, Refusal};
-use fields::{ONE_FIELD, ROW_OF_FOUR, fields, first_field};
+use crate::{Answer, AnswerKind, EntryLine, Line, LotLine, Refusal};
+use fields::{ONE_FIELD, fields, first_field};
 
 // The bytes behind a count, if they are so many lines.
-fn lines_of(bytes: &[u8]) -> Option<&[u8]>
+fn lines_of<L: Line>(bytes: &[u8]) -> Option<&[u8]>
     ensures { option_map (λ x. x.now) result ≡ (if nat_eq (length bytes.now) (9 + 32 * field_at 1 bytes.now) then Some (drop 9 bytes.now) else None) }
 {
     let count = first_field(bytes).ok()?;
     let lines = &bytes[ONE_FIELD..];
-    if lines.len() % ROW_OF_FOUR != 0 {
+    if !L::whole(lines) {
         return None;
     }
-    if (lines.len() / ROW_OF_FOUR) as u64 != count {
+    if L::count(lines) as u64 != count {
         return None;
     }
     Some(lines)
@@ -40,11 +40,11 @@ fn read_answer_as(kind: AnswerKind, bytes: &[u8]) -> Option<Answer<'_>>
             Some(Answer::Two(a, b))
         }
         AnswerKind::Lots => {
-            let lines = lines_of(bytes)?;
+            let lines = lines_of::<LotLine>(bytes)?;
             Some(Answer::Lots(lines))
         }
         AnswerKind::Entries => {
-            let lines = lines_of(bytes)?;
+            let lines = lines_of::<EntryLine>(bytes)?;
             Some(Answer::Entries(lines))
         }
     }
@@ -57,12 +57,4 @@ pub fn read_answer(bytes: &[u8]) -> Option<Answer<'_>>
     let number = bytes.first()?;
     let kind = AnswerKind::try_from(*number).ok()?;
     read_answer_as(kind, bytes)
-}
-
-/// How many lots, or entries, the bytes of their lines hold.
-pub fn line_count(lines: &[u8]) -> usize
-    ensures lots { result ≡ length (lots_in lines.now) }
-    ensures entries { result ≡ length (entries_in lines.now) }
-{
-    lines.len() / ROW_OF_FOUR
 }

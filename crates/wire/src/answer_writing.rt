@@ -5,20 +5,20 @@ ghost use Rattle.wire.specs.Answers.{bytes_of_answer};
 ghost use Rattle.wire.specs.Told.{refusal_number, told, answer_row, if_lines};
 
 use crate::{Answer, AnswerKind, EntryLine, Line, LotLine, Refusal};
-use fields::{ONE_FIELD, ROW_OF_FOUR, put_fields};
+use fields::{ONE_FIELD, put_fields};
 
 // A list whose lines are there as bytes.
 fn write_lines<L: Line>(lines: &[u8], out: &mut [u8]) -> Option<usize>
     ensures { wrote result out.new ≡ row_written (answer_row (if_lines lines.now (L.answer lines.now))) out.old }
 {
-    if lines.len() % ROW_OF_FOUR != 0 {
+    if !L::whole(lines) {
         return None;
     }
     let size = ONE_FIELD + lines.len();
     if out.len() < size {
         return None;
     }
-    L::begin(out, (lines.len() / ROW_OF_FOUR) as u64)?;
+    L::begin(out, L::count(lines) as u64)?;
     out[ONE_FIELD..size].copy_from_slice(lines);
     Some(size)
 }

@@ -1,4 +1,4 @@
-/// What people enter and ask. A call's number is its place in this list.
+/// What people enter and ask. A recipe has the bytes of its parts: a type of parts alone would ask more of whoever makes such a call.
 #[derive(Clone, Copy, PartialEq, Eq, Debug)]
 pub enum Call<'a> {
     /// An order to buy: item, pieces, price each.

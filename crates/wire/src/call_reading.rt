@@ -6,7 +6,7 @@ use crate::recipe::read_recipe;
 use crate::{Call, CallKind};
 use fields::fields;
 
-// A call of so many fields, if they are the whole row. A closure would be plainer, but `map` tells nothing of one that takes an array.
+// A line for each call, beside its kind. A call of so many fields, if they are the whole row. A closure would be plainer, but `map` tells nothing of one that takes an array.
 macro_rules! call {
     ($call:path, $count:literal, [$($field:ident),+], $bytes:expr) => {{
         let [$($field),+] = fields::<$count>($bytes)?;
@@ -41,11 +41,7 @@ fn read_as(kind: CallKind, bytes: &[u8]) -> Result<Call<'_>, usize>
 pub fn read(bytes: &[u8]) -> Result<Call<'_>, usize>
     ensures { heard result ≡ call_of bytes.now }
 {
-    let Some(number) = bytes.first() else {
-        return Err(0);
-    };
-    let Ok(kind) = CallKind::try_from(*number) else {
-        return Err(0);
-    };
+    let number = bytes.first().ok_or(0usize)?;
+    let kind = CallKind::try_from(*number).or(Err(0usize))?;
     read_as(kind, bytes)
 }

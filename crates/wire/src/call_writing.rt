@@ -15,6 +15,7 @@ pub(crate) fn put<const N: usize>(out: &mut [u8], kind: CallKind, fields: [u64; 
     put_fields(out, kind.into(), fields)
 }
 
+// A line for each call, its kind beside it; a method for the kind would name each call once more.
 /// Writes a call, and answers its length; nothing where it does not fit, or where a recipe's bytes are not whole parts, 255 at most.
 pub fn write_call(call: Call, out: &mut [u8]) -> Option<usize>
     ensures { wrote result out.new ≡ row_written (bytes_of_call (said call.entry)) out.old }

@@ -2,11 +2,13 @@
 ghost use Rattle.wire.specs.Statements.{CallComesBack, CallsApart, OneReading, AnswerComesBack, AnswerIsBytes, ListsCompose, AnswersFit};
 
 /// Reading what was written of a call gives the same call.
+#[tactic(auto, using(crate::proofs::CallLaws::comes_back))]
 pub fn call_comes_back_stands()
     ensures { CallComesBack }
 {}
 
 /// Two different calls never have the same bytes.
+#[tactic(auto, using(crate::proofs::CallLaws::apart))]
 pub fn calls_apart_stands()
     ensures { CallsApart }
 {}
@@ -17,6 +19,7 @@ pub fn one_reading_stands()
 {}
 
 /// Reading what was written of an answer gives the same answer.
+#[tactic(auto, using(crate::proofs::AnswerLaws::answer_comes_back))]
 pub fn answer_comes_back_stands()
     ensures { AnswerComesBack }
 {}
@@ -27,11 +30,13 @@ pub fn answer_is_bytes_stands()
 {}
 
 /// A list that is begun and whose lines are put one by one is the whole answer.
+#[tactic(auto, using(crate::proofs::ListLaws::lists_compose))]
 pub fn lists_compose_stands()
     ensures { ListsCompose }
 {}
 
 /// How long an answer is: 32 bytes for each lot that it can have and 8,208 more are enough.
+#[tactic(auto, using(crate::proofs::ListLaws::answers_fit))]
 pub fn answers_fit_stands()
     ensures { AnswersFit }
 {}

@@ -1,6 +1,6 @@
 //! Calls and answers as bytes.
 //!
-//! A call's first byte is its number, the place of its case in `Call`; its fields have eight bytes each, the low byte first. A recipe has its item, its
+//! A call's first byte is its number, the place of its case in `CallKind`; its fields have eight bytes each, the low byte first. A recipe has its item, its
 //! count of parts in one byte, and two fields for each part: item and pieces. Bytes that are no call are named by the place of the first that does
 //! not fit: 0 for no bytes or an unknown number, the length where bytes are missing, the expected length where there are too many.
 //!
@@ -27,7 +27,7 @@ mod unknown_number;
 
 pub use answer::Answer;
 pub use answer_kind::AnswerKind;
-pub use answer_reading::{line_count, read_answer};
+pub use answer_reading::read_answer;
 pub use answer_writing::{write, write_number, write_refusal, write_two};
 pub use call::Call;
 pub use call_kind::CallKind;
@@ -39,7 +39,7 @@ pub use laws::{
 };
 pub use line::Line;
 pub use lines::{EntryLine, LotLine, RecipePart};
-pub use recipe::{MOST_PARTS, RECIPE_HEAD, part_count};
+pub use recipe::{MOST_PARTS, RECIPE_HEAD, are_parts};
 pub use refusal::Refusal;
 pub use row::Row;
 pub use unknown_number::UnknownNumber;

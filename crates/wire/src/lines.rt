@@ -6,7 +6,7 @@ ghost use Rattle.wire.specs.declared.answer_kind.AnswerKind.TheVariants.{Lots, E
 ghost use Rattle.wire.specs.Rows.{part_in, part_bytes, lot_in, lot_bytes, entry_in, entry_bytes};
 ghost use Rattle.wire.specs.Said.{parts_in, part_said};
 ghost use Rattle.wire.specs.Told.{lots_in, lot_told, entries_in, entry_told};
-ghost use Rattle.wire.specs.Lines.{parts_by_row, part_by_fields, lots_by_row, lot_by_fields, entries_by_row, entry_by_fields};
+ghost use Rattle.wire.specs.Lines.{parts_by_row, parts_counted, part_by_fields, lots_by_row, lots_counted, lot_by_fields, entries_by_row, entries_counted, entry_by_fields};
 
 use crate::{AnswerKind, Line, Row};
 
@@ -34,6 +34,8 @@ impl Row<2> for RecipePart {
     ghost fits_memory = { Prim.search rules };
 
     ghost row_by_row = { parts_by_row };
+
+    ghost counted = { parts_counted };
 
     ghost by_fields = { part_by_fields };
 
@@ -72,6 +74,8 @@ impl Row<4> for LotLine {
     ghost fits_memory = { Prim.search rules };
 
     ghost row_by_row = { lots_by_row };
+
+    ghost counted = { lots_counted };
 
     ghost by_fields = { lot_by_fields };
 
@@ -125,6 +129,8 @@ impl Row<4> for EntryLine {
     ghost fits_memory = { Prim.search rules };
 
     ghost row_by_row = { entries_by_row };
+
+    ghost counted = { entries_counted };
 
     ghost by_fields = { entry_by_fields };
 

@@ -5,7 +5,7 @@ ghost use Rattle.wire.specs.Calls.{call_as, bytes_of_call};
 ghost use Rattle.wire.specs.Said.{heard, are_parts, parts_in};
 
 use crate::call_writing::put;
-use crate::{Call, CallKind};
+use crate::{Call, CallKind, RecipePart, Row};
 use fields::{ONE_FIELD, ROW_OF_TWO, first_field};
 
 /// The bytes before a recipe's parts: number, item, count.
@@ -31,11 +31,7 @@ pub(crate) fn read_recipe(bytes: &[u8]) -> Result<Call<'_>, usize>
 pub(crate) fn write_recipe(item: u64, parts: &[u8], out: &mut [u8]) -> Option<usize>
     ensures { wrote result out.new ≡ row_written (bytes_of_call (if are_parts parts.now then made_of item (parts_in parts.now) else garbled 0)) out.old }
 {
-    if parts.len() % ROW_OF_TWO != 0 {
-        return None;
-    }
-    let count = parts.len() / ROW_OF_TWO;
-    if count > MOST_PARTS {
+    if !are_parts(parts) {
         return None;
     }
     let size = RECIPE_HEAD + parts.len();
@@ -43,14 +39,14 @@ pub(crate) fn write_recipe(item: u64, parts: &[u8], out: &mut [u8]) -> Option<us
         return None;
     }
     put(out, CallKind::MadeOf, [item])?;
-    out[ONE_FIELD] = count as u8;
+    out[ONE_FIELD] = RecipePart::count(parts) as u8;
     out[RECIPE_HEAD..size].copy_from_slice(parts);
     Some(size)
 }
 
-/// How many parts the bytes of a recipe's parts hold.
-pub fn part_count(bytes: &[u8]) -> usize
-    ensures { result ≡ length (parts_in bytes.now) }
+/// Whether bytes are the parts of a recipe: whole ones, and no more than it can count.
+pub fn are_parts(bytes: &[u8]) -> bool
+    ensures { result ≡ are_parts bytes.now }
 {
-    bytes.len() / ROW_OF_TWO
+    RecipePart::whole(bytes) && RecipePart::count(bytes) <= MOST_PARTS
 }

@@ -1,9 +1,12 @@
-ghost use Rattle.std.specs.Prelude.{◌≡◌};
+ghost use Rattle.std.specs.Prelude.{◌≡◌, Some};
 ghost use Rattle.wire.specs.Answers.{is_refusal};
 ghost use Rattle.wire.specs.Numbers.{Numbered};
+ghost use Rattle.wire.specs.Refusals.{refusal_text};
 ghost use Rattle.wire.specs.Told.{refusal_number};
 
 use crate::UnknownNumber;
+use std::error::Error;
+use std::fmt;
 
 /// Why a call is turned away, by its number. Later ones come at the end.
 #[derive(Clone, Copy, PartialEq, Eq, Debug)]
@@ -56,3 +59,23 @@ impl TryFrom<u64> for Refusal {
         }
     }
 }
+
+impl fmt::Display for Refusal {
+    ghost output = { λ refusal. Some (refusal_text refusal) };
+
+    fn fmt<W: fmt::Write>(&self, f: &mut fmt::Formatter<W>) -> fmt::Result {
+        f.write_str(match self {
+            Refusal::Unreadable => "no call",
+            Refusal::BadField => "out of range, or not done",
+            Refusal::NoRoom => "too little memory",
+            Refusal::NoSuchOrder => "no such order",
+            Refusal::OtherKind => "an order of the other kind",
+            Refusal::TooMany => "more than was ordered, moved or is owed",
+            Refusal::NotOnHand => "not enough on hand",
+            Refusal::NoRecipe => "no recipe",
+            Refusal::OverLimits => "over the limits",
+        })
+    }
+}
+
+impl Error for Refusal {}

@@ -1,7 +1,6 @@
 use std::test::Fail;
 use wire::{
-    Answer, EntryLine, Line, LotLine, Refusal, Row, line_count, read_answer, write, write_refusal,
-    write_two,
+    Answer, EntryLine, Line, LotLine, Refusal, Row, read_answer, write, write_refusal, write_two,
 };
 
 #[test]
@@ -70,7 +69,7 @@ fn lots_line_by_line(rt: HostRuntime) -> Result<(), Fail> {
     let Some(Answer::Lots(lines)) = read_answer(&out[0..73]) else {
         return Err(Fail::new("no lots"));
     };
-    assert_eq!(rt; line_count(lines), 2);
+    assert_eq!(rt; LotLine::count(lines), 2);
     let read = LotLine::nth(lines, 1).ok_or("no second lot")?;
     assert_eq!(rt; read, second);
     let mut again = [170u8; 74];

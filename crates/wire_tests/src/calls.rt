@@ -1,6 +1,6 @@
 use std::process::Abort;
 use std::test::Fail;
-use wire::{Call, CallKind, RecipePart, Row, part_count, read, write_call};
+use wire::{Call, CallKind, RecipePart, Row, read, write_call};
 
 // How many bytes a call has, by its number; the recipe has two parts.
 const SIZES: [usize; 16] = [25, 25, 17, 17, 25, 17, 9, 9, 42, 17, 17, 9, 9, 9, 9, 17];
@@ -70,7 +70,7 @@ fn parts_of_a_recipe(rt: HostRuntime) -> Result<(), Fail> {
         return Err(Fail::new("no recipe"));
     };
     assert_eq!(rt; item, 3);
-    assert_eq!(rt; part_count(parts), 2);
+    assert_eq!(rt; RecipePart::count(parts), 2);
     let second = RecipePart::nth(parts, 1).ok_or("no second part")?;
     assert_eq!(rt; second, RecipePart { item: 6, each: 7 });
     assert!(rt; RecipePart::nth(parts, 2).is_none());

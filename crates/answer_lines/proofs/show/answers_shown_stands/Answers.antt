@@ -1,3 +1,4 @@
+-- Not `using(..)` on the function: this puts several lemmas together.
 use Rattle.std.proofs.Common.{Option, ap}
 use Rattle.firm.specs.Calls.{Answer}
 use Rattle.wire.proofs.AnswerLaws.{answer_comes_back}

@@ -1,3 +1,4 @@
+-- Not `using(..)` on the function: with it the search does not close the goal.
 use Rattle.call_lines.proofs.PlaceLaws.{places_at_words}
 use Rattle.call_lines.proofs.laws.places_at_words_stands.Goals as goal
 

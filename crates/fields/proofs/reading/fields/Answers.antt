@@ -8,5 +8,5 @@ pub returns : goal.returns
 returns g c =
     let size : length c.args.bytes.now ≡ 1 + 8 * g.row.N = search rules in
     let words : c.unwrap.result.now ≡ c.as_chunks.result.0.now = search rules in
-    let f = c.numbers.ensures ∙ ap (map value) (words ∙ c.as_chunks.ensures.front) ∙ words_behind g.row.N c.args.bytes.now size in
+    let f = c.numbers_of.ensures ∙ ap (map value) (words ∙ c.as_chunks.ensures.front) ∙ words_behind g.row.N c.args.bytes.now size in
     ap Ok f ∙ sym (cond-true (eqb (length c.args.bytes.now) (1 + 8 * g.row.N)) _ _ (eq-eqb (length c.args.bytes.now) (1 + 8 * g.row.N) size))

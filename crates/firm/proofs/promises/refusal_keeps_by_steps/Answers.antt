@@ -1,3 +1,4 @@
+-- Not `using(..)` on the function: with it the search does not close the goal.
 use Rattle.firm.proofs.promises.refusal_keeps_by_steps.Goals as goal
 use Rattle.firm.proofs.Keeping.{refusal_keeps_by_steps}
 

@@ -11,8 +11,8 @@ use Rattle.session.proofs.Saying.{said_by, some_item, taken_is}
 use Rattle.session.specs.Lengths.{lots_long}
 use Rattle.session.proofs.calling.say_lots.Goals as goal
 
-pub returns : goal.returns
-returns c =
+pub returns-in-Some : goal.returns-in-Some
+returns-in-Some c =
     let s = seen c.args.view in
     let known = some_item (ltb c.args.item c.args.view.limits.items) c.args.item c.in-Some.item c.in-Some.ensures in
     let ls = lots_met c.args.view.limits c.in-Some.item s in

@@ -1,3 +1,4 @@
+-- Not `using(..)` on the function: with it the search does not close the goal.
 use Rattle.session.proofs.Keeping.{keeps_sound, within}
 use Rattle.session.proofs.promises.memory_suffices.Goals as goal
 

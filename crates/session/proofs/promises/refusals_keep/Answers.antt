@@ -1,3 +1,4 @@
+-- Not `using(..)` on the function: with it the search does not close the goal.
 use Rattle.session.proofs.Keeping.{all_steps, stays}
 use Rattle.session.proofs.promises.refusals_keep.Goals as goal
 

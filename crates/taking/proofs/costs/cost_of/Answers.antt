@@ -30,7 +30,8 @@ loop-cell-preserved c =
     let q : ℕ = c.loop-cell.left in
     let part : c.part_of-part.result ≡ part_of c.lot.result q = c.part_of-part.ensures.value in
     let more : c.saturating_add-cost.result ≡ sum c.loop-cell.cost c.part_of-part.result.cost = omega (arith, c.saturating_add-cost.ensures) in
-    ap (cost_along l s (cells_left c.next.new.self) (q - c.part_of-part.result.pieces)) more
+    ap (λ n. cost_along l s (cells_left c.next.new.self) (q - n) c.saturating_add-cost.result) c.from-left.ensures
+    ∙ ap (cost_along l s (cells_left c.next.new.self) (q - c.part_of-part.result.pieces)) more
     ∙ ap (λ (p : Lot). cost_along l s (cells_left c.next.new.self) (q - p.pieces) (sum c.loop-cell.cost p.cost)) (part ∙ ap (λ (x : Lot). part_of x q) c.lot.ensures)
     ∙ sym (along_more l s c.in-Some.cell (cells_left c.next.new.self) q c.loop-cell.cost c.if-left-eq0.false)
     ∙ ap (λ cs. cost_along l s cs q c.loop-cell.cost) (sym c.in-Some.ensures.steps)

@@ -46,7 +46,7 @@ wants-preserved-in_default c =
 pub overflow_sub-left : goal.overflow_sub-left
 overflow_sub-left c =
     let w : Want = get_or c.args.wants.now c.wants.want-index (want 0 0) in
-    gave_few c.loop-line.memory.limits w.item c.loop-line.left (words c.loop-line.memory) c.in-Some.part (words c.take_oldest.new.memory) c.in-Some.ensures.words
+    rw c.from-left.ensures (gave_few c.loop-line.memory.limits w.item c.loop-line.left (words c.loop-line.memory) c.in-Some.part (words c.take_oldest.new.memory) c.in-Some.ensures.words)
 
 pub loop-line-preserved : goal.loop-line-preserved
 loop-line-preserved c =
@@ -58,9 +58,9 @@ loop-line-preserved c =
     let some : gave (Some c.in-Some.part) t ≡ take_oldest l w.item c.loop-line.left s =
     c.in-Some.ensures.words ∙ ap (λ k. take_oldest k w.item c.loop-line.left s) c.loop-line.invariant.0.2 in (
       same_on c.args.memory.now c.loop-line.memory c.take_oldest.new.memory c.loop-line.invariant.0 c.in-Some.ensures.same,
-      row_turns l w.item w.pieces (words c.wants.memory) (tally c.wants.answer c.wants.taken) c.loop-line._line c.loop-line.left
+      rw c.from-left.ensures (row_turns l w.item w.pieces (words c.wants.memory) (tally c.wants.answer c.wants.taken) c.loop-line._line c.loop-line.left
           s (tally c.loop-line.answer c.loop-line.taken) c.in-Some.part t
-          (tally c.put_part-taken.new.answer c.put_part-taken.result) c.loop-line.invariant.1 lt c.if-left-eq0.false some c.put_part-taken.ensures,
+          (tally c.put_part-taken.new.answer c.put_part-taken.result) c.loop-line.invariant.1 lt c.if-left-eq0.false some c.put_part-taken.ensures),
     )
 
 pub wants-preserved : goal.wants-preserved

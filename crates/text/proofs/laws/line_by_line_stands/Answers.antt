@@ -1,3 +1,4 @@
+-- Not `using(..)` on the function: this puts several lemmas together.
 use Rattle.std.proofs.Common.{ap, ◌∙◌}
 use mathlib.Core.List.{map-append}
 use Rattle.call_lines.specs.Lines.{call_in_line}

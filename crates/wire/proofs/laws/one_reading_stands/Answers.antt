@@ -1,3 +1,4 @@
+-- Not `using(..)` on the function: with it the search does not close the goal.
 use Rattle.wire.proofs.OneReading.{one_reading}
 use Rattle.wire.proofs.laws.one_reading_stands.Goals as goal
 
