@@ -36,7 +36,7 @@ module _ (l : Limits) (s : State) (f : Firm) (room : ℕ) (h : Standing (books_l
       (eq-eqb (turned (books_limits l) f c) 0 (turned_not (books_limits l) f c g by (ap (fits (books_limits l)) same ∙ reached_fits (books_limits l) f h.reached)))
 
   -- STOCK
-  stock_is : (i : ℕ) → i < l.items → stock_told l i s ≡ two (on_hand f.lots i) (worth f.lots i)
+  stock_is : (i : ℕ) → i < l.items → stock_told l i s.wide ≡ two (on_hand f.lots i) (worth f.lots i)
   unfolding call_number good_fields turned_by changed told
   stock_is i lt = (done_means (books_limits l) s f h.good h.cans h.reached h.means (calls.stock_of i)).says ∙ asked (calls.stock_of i) (lt-ltb i l.items lt) refl refl
 
@@ -47,7 +47,7 @@ module _ (l : Limits) (s : State) (f : Firm) (room : ℕ) (h : Standing (books_l
       (rows_same (stock_shown l s) (λ i. stock_row i (on_hand f.lots i) (worth f.lots i)) l.items (λ i lt. ap (two_shown (stock_row i)) (stock_is i lt)))
 
   -- ACCOUNTS
-  account_is : (a : ℕ) → a < 9 → account_told l a s ≡ two (left_side f.entries a) (right_side f.entries a)
+  account_is : (a : ℕ) → a < 9 → account_told a s.wide ≡ two (left_side f.entries a) (right_side f.entries a)
   unfolding call_number good_fields turned_by changed told
   account_is a lt = (done_means (books_limits l) s f h.good h.cans h.reached h.means (calls.account a)).says ∙ asked (calls.account a) (lt-ltb a 9 lt) refl refl
 

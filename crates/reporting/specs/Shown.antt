@@ -19,10 +19,10 @@ two_shown row (lots ls) = []
 two_shown row (entries es) = []
 
 abbrev pub stock_shown : Limits → State → ℕ → List ℕ
-stock_shown l s i = two_shown (stock_row i) (stock_told l i s)
+stock_shown l s i = two_shown (stock_row i) (stock_told l i s.wide)
 
 abbrev pub account_shown : Limits → State → ℕ → List ℕ
-account_shown l s a = two_shown (account_row a) (account_told l a s)
+account_shown l s a = two_shown (account_row a) (account_told a s.wide)
 
 abbrev pub order_shown : Limits → List ℕ → ℕ → List ℕ
 order_shown l n k = order_row k (order_of (order_record l k n))

@@ -1,5 +1,5 @@
 -- Goods that come on an order to buy, on any memory. Definitions only: nothing is assumed.
-use Rattle.std.specs.Prelude.{ℕ, ◌+◌, ◌*◌, Bool, cond, ◌&&◌, Ok, Err, Result, ◌==◌, nat_le, nat_lt}
+use Rattle.std.specs.Prelude.{ℕ, ◌+◌, ◌*◌, Bool, cond, ◌&&◌, Ok, Err, Result, nat_le, nat_lt}
 use Rattle.firm.specs.Calls.{refused, number}
 use Rattle.firm.specs.Refusals.{some_pieces}
 use Rattle.layout.specs.declared.head.Counter.TheVariants.{Orders}
@@ -7,12 +7,12 @@ use Rattle.layout.specs.declared.head.Total.TheVariants.{Documents, Booked, Wort
 use Rattle.layout.specs.declared.limits.Limits.{Limits}
 use Rattle.memory.specs.Books.{count_of, total_of, order_record}
 use Rattle.records.specs.State.{State, state}
-use Rattle.records.specs.declared.entry.Entry.{Entry}
 use Rattle.records.specs.declared.lot.Lot.{Lot}
 use Rattle.records.specs.declared.order.Order.{Order}
-use Rattle.store.specs.Steps.{After, add_lot, set_order, add_entry}
+use Rattle.store.specs.Steps.{After, add_lot, set_order, count_in}
 use Rattle.store.specs.declared.refusal.Refusal.{Refusal}
 use Rattle.rules.specs.Checks.{in_time, enters, stores}
+use Rattle.rules.specs.Entering.{entered}
 use Rattle.rules.specs.Outcome.{Outcome, outcome, refuse}
 use Rattle.rules.specs.Totals.{raised}
 
@@ -23,15 +23,11 @@ moved_more o q = record { sells = o.sells; item = o.item; pieces = o.pieces; pri
 abbrev pub with_order : Limits → ℕ → Order → State → State
 with_order l k o s = state s.wide (set_order l k o s.narrow).left
 
--- nothing is entered for an amount of 0
-abbrev pub entered : Limits → Entry → State → State
-entered l x s = cond (x.amount == 0) s (add_entry l x s).left
-
 -- what came cost x: all lots cost as much more, all entries come to as much more, and there is a document more
 abbrev pub summed : ℕ → State → State
 summed x s = state (raised Documents 1 (raised Booked x (raised Worth x s.wide))) s.narrow
 
--- on memory that has the lot already: the order moves, and the cost is entered on 0 and 1
+-- on memory that has the lot already and counts it: the order moves, and the cost is entered on 0 and 1
 unfoldable pub received : Limits → ℕ → Order → ℕ → ℕ → State → State
 received l k o q d s =
     summed (q * o.price) (entered l (record { left = 0; right = 1; amount = q * o.price; «document» = d }) (with_order l k (moved_more o q) s))
@@ -43,9 +39,9 @@ comes_fits l x s = enters l x s && (stores x s && in_time s)
 abbrev pub new_lot : Order → ℕ → ℕ → Lot
 new_lot o q d = record { item = o.item; pieces = q; cost = q * o.price; «document» = d }
 
--- by what came of adding the lot, which leaves t; the answer is the document's number
+-- by what came of adding the lot, which leaves t: it is counted for its item. The answer is the document's number
 abbrev pub stored : Limits → ℕ → Order → ℕ → ℕ → State → Result ℕ Refusal → Outcome
-stored l k o q d t (Ok c) = outcome (number d) (received l k o q d t)
+stored l k o q d t (Ok c) = outcome (number d) (received l k o q d (state (count_in l c t) t.narrow))
 stored l k o q d t (Err e) = outcome (refused 9 0) t
 
 abbrev pub placed : Limits → ℕ → Order → ℕ → ℕ → After ℕ State → Outcome

@@ -7,6 +7,7 @@
 mod asking;
 mod buying;
 mod checks;
+mod entering;
 mod receiving;
 mod refused;
 mod totals;

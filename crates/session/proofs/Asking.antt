@@ -1,11 +1,9 @@
 -- Questions, what is no call, and what the stage does not do. Assumes nothing.
-use Rattle.std.proofs.Common.{◌≡◌, ℕ, ◌<◌, ◌≤◌, Bool, true, false, ◌&&◌, ◌||◌, eqb, ltb, List, [], map, length, get_or, sym, refl, ap, ◌∙◌, subst, ap₂, arith}
+use Rattle.std.proofs.Common.{◌≡◌, ℕ, ◌<◌, Bool, true, false, ◌&&◌, ◌||◌, eqb, ltb, List, [], length, get_or, sym, refl, ap, ◌∙◌, subst, arith}
 use Rattle.std.proofs.lemmas.List.{length-map, get_or-map}
-use Rattle.std.proofs.lemmas.Bool.{cond_both, ltb-true, leb-true}
-use Rattle.firm.specs.Stock.{pick, on_hand, worth, all_worth, of_item}
-use Rattle.firm.specs.Ledger.{left_side, right_side, sum_of}
-use Rattle.firm.specs.Ledger as ledger
-use Rattle.firm.specs.Firm.{Firm, no_order, the_order}
+use Rattle.std.proofs.lemmas.Bool.{cond_both, ltb-true}
+use Rattle.firm.specs.Stock.{pick, of_item}
+use Rattle.firm.specs.Firm.{Firm, no_order}
 use Rattle.firm.specs.Firm as firm
 use Rattle.firm.specs.Calls.{Call, Answer, refused, two, Limits, call_number}
 use Rattle.firm.specs.Calls as calls
@@ -13,20 +11,16 @@ use Rattle.firm.specs.Changes.{changed}
 use Rattle.firm.specs.Refusals.{good_fields, good_call, turned_by, fits, garbled_at, place}
 use Rattle.firm.specs.Answers.{told}
 use Rattle.firm.specs.Promise.{thin}
-use Rattle.firm.specs.Statements.{Reached, all_pieces}
-use Rattle.firm.proofs.Bounds.{reached_fits, reached_parts}
+use Rattle.firm.specs.Statements.{Reached}
+use Rattle.firm.proofs.Bounds.{reached_fits}
 use Rattle.firm.proofs.Picks.{pick_true, pick_false}
 use Rattle.firm.proofs.Turned.{turned_bad, turned_known, turned_not}
-use Rattle.layout.specs.Layout.{Good, lot_rows, entry_rows}
+use Rattle.layout.specs.Layout.{Good, lot_rows}
 use Rattle.layout.specs.declared.head.Counter.TheVariants.{Orders}
-use Rattle.layout.proofs.Placed.{lot_rows_placed, entry_rows_placed}
+use Rattle.layout.proofs.Placed.{lot_rows_placed}
 use Rattle.links.specs.Model.{row}
-use Rattle.links.proofs.Counts.{total_row}
-use Rattle.links.proofs.View.{end_is}
-use Rattle.memory.specs.Books.{count_of, order_record, lot_record, entry_record}
-use Rattle.questions.specs.Listing.{lot_of, lots_met, lots_step}
-use Rattle.questions.specs.Sums.{stock_of, sides_of, stock_step, sides_step, no_stock, no_balance}
-use Rattle.std.specs.List.{fold}
+use Rattle.memory.specs.Books.{count_of, order_record, balance_of, stock_of}
+use Rattle.questions.specs.Listing.{lots_met, lots_step}
 use Rattle.questions.proofs.Along.{walked_row}
 use Rattle.records.specs.Kinds.{order_kind}
 use Rattle.records.specs.State.{State}
@@ -36,8 +30,8 @@ use Rattle.rules.specs.Asking.{stock_told, account_told, order_told}
 use Rattle.rules.specs.Outcome.{outcome, refuse}
 use Rattle.store.specs.View.{Kept}
 use Rattle.session.specs.Calling.{lots_told}
-use Rattle.session.proofs.Counting.{on_hand_is, worth_is, worth_most, lots_along, stock_along, pieces_most, left_most, right_most, sides_along}
-use Rattle.session.specs.Means.{Means, order_of, entry_of, limits_of}
+use Rattle.session.specs.Means.{Means, order_of, stock_sums, account_sums, limits_of}
+use Rattle.session.proofs.Counting.{lots_along, lots_there}
 use Rattle.session.proofs.Turning.{Done, refuses, goes}
 
 module _ (l : Limits) (s : State) (f : Firm) (good : Good (limits_of l)) (cans : l.calls_can ≡ thin) (r : Reached l f) (h : Means (limits_of l) s f) where
@@ -86,44 +80,18 @@ module _ (l : Limits) (s : State) (f : Firm) (good : Good (limits_of l)) (cans :
         (λ e. asked (calls.order k) _ order_good (order_by ∙ pick_true (ltb k (count_of Orders s.narrow)) 0 4 e) order_changed (order_says e))
         (λ e. refuses l s f (calls.order k) 4 0 (turned_known l f (calls.order k) 4 order_good (order_by ∙ pick_false (ltb k (count_of Orders s.narrow)) 0 4 e) (omega arith)) (omega arith) order_at_4 h)
 
-  -- AN ITEM'S LOTS along its row
+  -- AN ITEM'S LOTS
   module _ (i : ℕ) where
-    abbrev places : List ℕ
-    places = row h.stands.lots.places i
-
-    in_rows : i < l.items → i < (lot_rows (limits_of l)).rows
-    in_rows lt = omega (arith, good.items)
-
-    lots_there : i < l.items → map lot_of (map (λ c. lot_record (limits_of l) c s) places) ≡ of_item f.lots i
-    lots_there lt = ap (map lot_of) (h.stands.lots.each i lt) ∙ h.lots i lt
-
-    few_places : i < l.items → length places ≤ 65536
-    few_places lt =
-        omega (
-          arith,
-          good.lots,
-          total_row h.stands.lots.places i (omega (arith, h.stands.lots.held.many, in_rows lt)),
-          h.stands.lots.held.held.room,
-          end_is (lot_rows (limits_of l)) s.narrow,
-        )
-
-    -- its lots
+    -- its lots, along its row
     met_are : i < l.items → lots_met (limits_of l) i s ≡ of_item f.lots i
     unfolding lots_met
     met_are lt =
-        walked_row (lots_step (limits_of l) s) (lot_rows (limits_of l)) s.narrow h.stands.lots.places i [] (lot_rows_placed (limits_of l) good).sound h.stands.lots.held (in_rows lt)
-        ∙ lots_along (limits_of l) s places [] ∙ lots_there lt
+        walked_row (lots_step (limits_of l) s) (lot_rows (limits_of l)) s.narrow h.stands.lots.places i [] (lot_rows_placed (limits_of l) good).sound h.stands.lots.held (omega (arith, good.items))
+        ∙ lots_along (limits_of l) s (row h.stands.lots.places i) [] ∙ lots_there (limits_of l) s f good h i lt
 
-    -- what they come to
-    stock_is : i < l.items → stock_of (limits_of l) i s ≡ record { pieces = on_hand f.lots i; worth = worth f.lots i }
-    unfolding stock_of
-    stock_is lt =
-        let pieces : all_pieces (map lot_of (map (λ c. lot_record (limits_of l) c s) places)) ≡ on_hand f.lots i = ap all_pieces (lots_there lt) ∙ sym (on_hand_is f.lots i) in
-        let cost : all_worth (map lot_of (map (λ c. lot_record (limits_of l) c s) places)) ≡ worth f.lots i = ap all_worth (lots_there lt) ∙ sym (worth_is f.lots i) in
-        walked_row (stock_step (limits_of l) s) (lot_rows (limits_of l)) s.narrow h.stands.lots.places i no_stock (lot_rows_placed (limits_of l) good).sound h.stands.lots.held (in_rows lt)
-        ∙ stock_along (limits_of l) s places no_stock (omega (arith, pieces_most (limits_of l) s places h.sized, few_places lt))
-        (omega (arith, cost, worth_most f.lots i, leb-true (all_worth f.lots) 1000000000000 (reached_parts l f r).worth))
-        ∙ ap₂ (λ (p w : ℕ). record { pieces = p; worth = w }) (omega (arith, pieces)) (omega (arith, cost))
+    -- what they come to, by the sums that are kept
+    stock_is : i < l.items → stock_of i s.wide ≡ stock_sums f.lots i
+    stock_is lt = h.stands.sums.stocks i lt ∙ h.stocks i lt
 
     stock_good : good_call l (calls.stock_of i) ≡ ltb i l.items
     unfolding call_number good_fields
@@ -141,13 +109,13 @@ module _ (l : Limits) (s : State) (f : Firm) (good : Good (limits_of l)) (cans :
     unfolding place call_number
     stock_at_2 = refl
 
-    stock_says : i < l.items → two (stock_of (limits_of l) i s).pieces (stock_of (limits_of l) i s).worth ≡ told f (calls.stock_of i)
+    stock_says : i < l.items → two (stock_of i s.wide).pieces (stock_of i s.wide).worth ≡ told f (calls.stock_of i)
     unfolding told
     stock_says lt = ap (λ (a : Stock). two a.pieces a.worth) (stock_is lt)
 
-    pub stock_done : Done l s f (calls.stock_of i) (outcome (stock_told (limits_of l) i s) s)
+    pub stock_done : Done l s f (calls.stock_of i) (outcome (stock_told (limits_of l) i s.wide) s)
     stock_done =
-        cond_both (ltb i l.items) (two (stock_of (limits_of l) i s).pieces (stock_of (limits_of l) i s).worth) (refused 2 0) (λ (a : Answer). Done l s f (calls.stock_of i) (outcome a s))
+        cond_both (ltb i l.items) (two (stock_of i s.wide).pieces (stock_of i s.wide).worth) (refused 2 0) (λ (a : Answer). Done l s f (calls.stock_of i) (outcome a s))
         (λ e. asked (calls.stock_of i) _ (stock_good ∙ e) stock_by stock_changed (stock_says (ltb-true i l.items e)))
         (λ e. refuses l s f (calls.stock_of i) 2 0 (turned_bad l f (calls.stock_of i) (stock_good ∙ e)) (omega arith) stock_at_2 h)
 
@@ -177,19 +145,10 @@ module _ (l : Limits) (s : State) (f : Firm) (good : Good (limits_of l)) (cans :
         (λ e. asked (calls.lots_of i) _ (lots_good ∙ e) lots_by lots_changed (lots_says (ltb-true i l.items e)))
         (λ e. refuses l s f (calls.lots_of i) 2 0 (turned_bad l f (calls.lots_of i) (lots_good ∙ e)) (omega arith) lots_at_2 h)
 
-  -- AN ACCOUNT'S ENTRIES along its row
+  -- AN ACCOUNT'S SIDES, by the sums that are kept
   module _ (a : ℕ) where
-    sides_are : a < 9 → sides_of (limits_of l) a s ≡ record { left = left_side f.entries a; right = right_side f.entries a }
-    unfolding sides_of
-    sides_are lt =
-        let few : sum_of f.entries ≤ 1000000000000000 = leb-true (sum_of f.entries) 1000000000000000 (reached_parts l f r).sum in
-        let lefts : left_side (map entry_of m.all_entries) a ≡ left_side f.entries a = ap (λ (es : List ledger.Entry). left_side es a) h.entries in
-        let rights : right_side (map entry_of m.all_entries) a ≡ right_side f.entries a = ap (λ (es : List ledger.Entry). right_side es a) h.entries in
-        walked_row (sides_step (limits_of l) s) (entry_rows (limits_of l)) s.narrow h.stands.entries.places a no_balance (entry_rows_placed (limits_of l) good).sound h.stands.entries.linked.held (omega arith)
-        ∙ ap (λ (cs : List ℕ). fold (sides_step (limits_of l) s) no_balance cs) (h.stands.entries.of_account a (omega arith))
-        ∙ sides_along (limits_of l) s a m.all_entries 0 0 0 (λ j lj. ap (λ (n : ℕ). entry_record (limits_of l) n s) (omega arith) ∙ h.stands.entries.each j lj)
-        (omega (arith, lefts, left_most f.entries a)) (omega (arith, rights, right_most f.entries a))
-        ∙ ap₂ (λ (x y : ℕ). record { left = x; right = y }) (omega (arith, lefts)) (omega (arith, rights))
+    sides_are : a < 9 → balance_of a s.wide ≡ account_sums f.entries a
+    sides_are lt = h.stands.sums.balances a (omega arith) ∙ h.balances a lt
 
     account_good : good_call l (calls.account a) ≡ ltb a 9
     unfolding call_number good_fields
@@ -207,13 +166,13 @@ module _ (l : Limits) (s : State) (f : Firm) (good : Good (limits_of l)) (cans :
     unfolding place call_number
     account_at_2 = refl
 
-    account_says : a < 9 → two (sides_of (limits_of l) a s).left (sides_of (limits_of l) a s).right ≡ told f (calls.account a)
+    account_says : a < 9 → two (balance_of a s.wide).left (balance_of a s.wide).right ≡ told f (calls.account a)
     unfolding told
     account_says lt = ap (λ (b : Balance). two b.left b.right) (sides_are lt)
 
-    pub account_done : Done l s f (calls.account a) (outcome (account_told (limits_of l) a s) s)
+    pub account_done : Done l s f (calls.account a) (outcome (account_told a s.wide) s)
     account_done =
-        cond_both (ltb a 9) (two (sides_of (limits_of l) a s).left (sides_of (limits_of l) a s).right) (refused 2 0) (λ (b : Answer). Done l s f (calls.account a) (outcome b s))
+        cond_both (ltb a 9) (two (balance_of a s.wide).left (balance_of a s.wide).right) (refused 2 0) (λ (b : Answer). Done l s f (calls.account a) (outcome b s))
         (λ e. asked (calls.account a) _ (account_good ∙ e) account_by account_changed (account_says (ltb-true a 9 e)))
         (λ e. refuses l s f (calls.account a) 2 0 (turned_bad l f (calls.account a) (account_good ∙ e)) (omega arith) account_at_2 h)
 

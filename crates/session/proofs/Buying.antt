@@ -29,7 +29,7 @@ use Rattle.store.specs.Laws.{with_orders, with_total}
 use Rattle.store.specs.Steps.{After, after, order_placed, add_order}
 use Rattle.store.specs.View.{Kept, Stands}
 use Rattle.store.proofs.OrderLaws.{adds_order, refuses_order}
-use Rattle.session.specs.Means.{Means, order_of, limits_of}
+use Rattle.session.specs.Means.{Means, order_of, limits_of, account_sums}
 use Rattle.session.proofs.Steps.{raised_stands}
 use Rattle.session.proofs.Small.{SmallOrder, sized_order_placed, sized_raised}
 use Rattle.session.proofs.Turning.{Done, refuses, goes}
@@ -119,6 +119,8 @@ module _ (l : Limits) (s : State) (f : Firm) (i q p : ℕ) (good : Good (limits_
           used = h.used;
           orders = map-append order_of h.kept.all_orders (x ∷ []) ∙ ap (λ (os : List firm.Order). os ++ order_of x ∷ []) h.orders;
           entries = h.entries ∙ sym (append-nil f.entries);
+          stocks = h.stocks;
+          balances = λ a lt. h.balances a lt ∙ ap (λ (es : List ledger.Entry). account_sums es a) (sym (append-nil f.entries));
           sized = sized_raised (limits_of l) Documents 1 t (sized_order_placed (limits_of l) x s small (omega (arith, h.stands.orders.count, orders_are, good.orders)) h.sized);
         }
 

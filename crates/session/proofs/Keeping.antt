@@ -7,11 +7,12 @@ use Rattle.firm.specs.Calls.{Call, Limits, call_number, readable}
 use Rattle.firm.specs.Calls as calls
 use Rattle.firm.specs.Refusals.{turned, place}
 use Rattle.firm.specs.Answers.{after, answer, ran}
-use Rattle.firm.specs.Promise.{GoodLimits, Memory, all_below, thin}
+use Rattle.firm.specs.Promise.{GoodLimits, Memory, all_below}
+use Rattle.firm.specs.Promise.{thin}
 use Rattle.firm.specs.Keeping.{AllSteps, Stays, KeepsSound, Within}
 use Rattle.firm.specs.Statements.{Reached}
-use Rattle.firm.specs.Ledger.{sum_of}
-use Rattle.firm.specs.Stock.{all_worth, of_item}
+use Rattle.firm.specs.Ledger.{left_side, right_side, sum_of}
+use Rattle.firm.specs.Stock.{on_hand, worth, all_worth, of_item}
 use Rattle.layout.specs.Layout.{Good, wide_need, narrow_need}
 use Rattle.layout.specs.declared.limits.Limits as memory
 use Rattle.memory.specs.Books.{limits_in}
@@ -56,7 +57,7 @@ module _ (l : Limits) (s : State) (f : Firm) (good : Good (limits_of l)) (cans :
 
 -- OPENED MEMORY means a firm that has nothing
 pub opened_means : (l : memory.Limits) (s : State) → Good l → length s.wide ≡ wide_need l → length s.narrow ≡ narrow_need l → Means l (opened l s) new_firm
-unfolding sum_of all_worth of_item
+unfolding sum_of all_worth of_item on_hand worth left_side right_side
 opened_means l s good w n =
     record {
       kept = nothing_kept;
@@ -68,6 +69,8 @@ opened_means l s good w n =
       used = refl;
       orders = refl;
       entries = refl;
+      stocks = λ i lt. refl;
+      balances = λ a lt. refl;
       sized = sized_opened l s good w n;
     }
 

@@ -4,8 +4,9 @@ pub mod Doing
 pub mod Steps
 pub mod Turning
 pub mod Buying
-pub mod Receiving
 pub mod Counting
+pub mod Entering
+pub mod Receiving
 pub mod Asking
 pub mod Keeping
 pub mod Called

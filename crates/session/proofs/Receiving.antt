@@ -5,7 +5,6 @@ use Rattle.std.proofs.lemmas.Bool.{cond_both, cond-true, cond-false, and_parts, 
 use Rattle.firm.specs.Stock.{pick, of_item}
 use Rattle.firm.specs.Stock as stock
 use Rattle.firm.specs.Ledger.{entry}
-use Rattle.firm.specs.Ledger as ledger
 use Rattle.firm.specs.Firm.{Firm, no_order, the_order, moved_by}
 use Rattle.firm.specs.Firm as firm
 use Rattle.firm.specs.Calls.{Call, number, Limits, call_number}
@@ -25,26 +24,29 @@ use Rattle.firm.proofs.Turned.{turned_bad, turned_known, turned_full, turned_not
 use Rattle.layout.specs.Layout.{Good}
 use Rattle.layout.specs.declared.head.Counter.TheVariants.{Orders, Entries}
 use Rattle.layout.specs.declared.head.Total.TheVariants.{Documents, Booked, Worth}
-use Rattle.memory.specs.Books.{count_of, total_of, order_record, put_order}
+use Rattle.memory.specs.Books.{count_of, total_of, order_record, put_order, lot_record}
 use Rattle.questions.specs.Listing.{lot_of}
 use Rattle.records.specs.Kinds.{order_kind}
 use Rattle.records.specs.State.{State, state}
 use Rattle.records.specs.declared.entry.Entry.{Entry}
 use Rattle.records.specs.declared.lot.Lot.{Lot}
 use Rattle.records.specs.declared.order.Order.{Order}
-use Rattle.rules.specs.Checks.{in_time, enters, stores}
+use Rattle.rules.specs.Checks.{in_time, enters as entering, stores}
+use Rattle.rules.specs.Entering.{entered}
 use Rattle.rules.specs.Outcome.{refuse}
-use Rattle.rules.specs.Receiving.{moved_more, with_order, entered, summed, received, comes_fits, new_lot, placed, comes}
+use Rattle.rules.specs.Receiving.{moved_more, with_order, summed, received, comes_fits, new_lot, placed, comes}
 use Rattle.rules.specs.Totals.{raised}
-use Rattle.store.specs.Laws.{with_lots, with_orders, with_entries, with_total}
-use Rattle.store.specs.Steps.{After, after, lot_placed, add_lot, set_order, add_entry}
+use Rattle.store.specs.Laws.{with_lots, with_orders, with_entries, with_total, with_stocks, with_balances, stock_with}
+use Rattle.store.specs.Steps.{After, after, lot_placed, add_lot, set_order, lot_counted, count_in}
 use Rattle.store.specs.View.{Kept, Stands}
-use Rattle.store.proofs.EntryLaws.{adds_entry}
 use Rattle.store.proofs.LotLaws.{adds_lot, refuses_lot}
 use Rattle.store.proofs.OrderLaws.{sets_order}
+use Rattle.store.proofs.SumLaws.{counts_in}
 use Rattle.session.specs.Means.{Means, order_of, entry_of, limits_of, Sized}
+use Rattle.session.proofs.Counting.{worth_most, on_hand_small, stock_more}
+use Rattle.session.proofs.Entering.{Entered, enters}
 use Rattle.session.proofs.Steps.{of_item_push, raised_stands}
-use Rattle.session.proofs.Small.{sized_put_order, sized_lot_placed, sized_entry_placed, sized_raised, order_billed_small}
+use Rattle.session.proofs.Small.{sized_put_order, sized_lot_placed, sized_lot_counted, sized_raised, order_billed_small}
 use Rattle.session.proofs.Turning.{Done, refuses, goes}
 
 module _ (l : Limits) (s : State) (f : Firm) (k q : ℕ) (good : Good (limits_of l)) (cans : l.calls_can ≡ thin) (r : Reached l f) (h : Means (limits_of l) s f) where
@@ -182,27 +184,38 @@ module _ (l : Limits) (s : State) (f : Firm) (k q : ℕ) (good : Good (limits_of
 
       tested : tests
       tested =
-          let u = and_parts (enters (limits_of l) x s) (stores x s && in_time s) fit in
+          let u = and_parts (entering (limits_of l) x s) (stores x s && in_time s) fit in
           let v = and_parts (leb (count_of Entries s.narrow + cond (eqb x 0) 0 1) l.entries) (leb (total_of Booked s.wide + x) 1000000000000000) u.0 in
           let w = and_parts (stores x s) (in_time s) u.1 in
           (leb-true _ _ v.0, leb-true _ _ v.1, leb-true _ _ w.0, ltb-true _ _ w.1)
 
       -- IT IS DONE: the lot
       module _ (less : length f.lots < l.lots) where
-        abbrev k₁ : Kept
-        k₁ = with_lots o.item (m.lots_of o.item ++ lot ∷ []) (m.lots_used + 1) m
+        abbrev k₀ : Kept
+        k₀ = with_lots o.item (m.lots_of o.item ++ lot ∷ []) (m.lots_used + 1) m
 
-        adds : (n : ℕ) × (n < l.lots) × (add_lot (limits_of l) lot s ≡ after (Ok n) (lot_placed (limits_of l) n lot s)) × Stands (limits_of l) (lot_placed (limits_of l) n lot s) k₁
+        adds : (n : ℕ) × (n < l.lots) × (add_lot (limits_of l) lot s ≡ after (Ok n) (lot_placed (limits_of l) n lot s)) × (lot_record (limits_of l) n (lot_placed (limits_of l) n lot s) ≡ lot)
+            × Stands (limits_of l) (lot_placed (limits_of l) n lot s) k₀
         adds = adds_lot (limits_of l) s m lot good h.stands known.item (omega (arith, h.used))
 
+        abbrev s₀ : State
+        s₀ = lot_placed (limits_of l) adds.0 lot s
+
+        -- it is counted
+        abbrev k₁ : Kept
+        k₁ = with_stocks (λ i. stock_with lot i (m.stocks i)) k₀
+
         abbrev s₁ : State
-        s₁ = lot_placed (limits_of l) adds.0 lot s
+        s₁ = state (count_in (limits_of l) adds.0 s₀) s₀.narrow
+
+        stands₁ : Stands (limits_of l) s₁ k₁
+        stands₁ = subst (λ (y : Lot). Stands (limits_of l) (state (lot_counted (limits_of l) y s₀.wide) s₀.narrow) k₁) (sym adds.3) (counts_in (limits_of l) s₀ k₀ lot good adds.4 known.item)
 
         sized₁ : Sized (limits_of l) s₁
         sized₁ =
-            sized_lot_placed (limits_of l) adds.0 lot s
+            sized_lot_counted (limits_of l) (lot_record (limits_of l) adds.0 s₀) s₀ (sized_lot_placed (limits_of l) adds.0 lot s
             (record { item = omega (arith, known.item, good.items); pieces = omega (arith, q_small); cost = omega (arith, tested.1); «document» = omega (arith, tested.3) })
-            (omega (arith, adds.1, good.lots)) h.sized
+            (omega (arith, adds.1, good.lots)) h.sized)
 
         -- the order
         abbrev o' : Order
@@ -213,7 +226,7 @@ module _ (l : Limits) (s : State) (f : Firm) (k q : ℕ) (good : Good (limits_of
 
         sets : (set_order (limits_of l) k o' s₁.narrow ≡ after (Ok k) (put_order (limits_of l) k o' s₁.narrow)) × Stands (limits_of l) (state s₁.wide (put_order (limits_of l) k o' s₁.narrow)) k₂
         sets =
-            sets_order (limits_of l) s₁ k₁ k o' good adds.3 (omega (arith, few, orders_are)) (ap (λ (z : Order). z.item) at_k)
+            sets_order (limits_of l) s₁ k₁ k o' good stands₁ (omega (arith, few, orders_are)) (ap (λ (z : Order). z.item) at_k)
 
         abbrev s₂ : State
         s₂ = with_order (limits_of l) k o' s₁
@@ -236,25 +249,12 @@ module _ (l : Limits) (s : State) (f : Firm) (k q : ℕ) (good : Good (limits_of
         abbrev y : Entry
         y = record { left = 0; right = 1; amount = x; «document» = d }
 
-        abbrev Entered : State → Type 0
-        Entered t = (n : Kept) × Stands (limits_of l) t n × Sized (limits_of l) t × (map entry_of n.all_entries ≡ f.entries ++ entry 0 1 x d) × (n ≡ with_entries n.all_entries k₂)
-
-        entered_is : Entered (entered (limits_of l) y s₂)
-        unfolding entry
-        entered_is =
-            cond_both (eqb x 0) s₂ (add_entry (limits_of l) y s₂).left Entered
-            (λ none. (k₂, stands₂, sized₂, h.entries ∙ sym (ap (λ (es : List ledger.Entry). f.entries ++ es) (pick_true (eqb x 0) [] (entry_of y ∷ []) none) ∙ append-nil f.entries), refl))
-            (λ some.
-            let room : length m.all_entries < l.entries = omega (arith, tested.0, cond-false {A = ℕ} (eqb x 0) 0 1 some, h.stands.entries.count) in
-            let e = adds_entry (limits_of l) s₂ k₂ y good stands₂ (omega arith) (omega arith) room in (
-              with_entries (m.all_entries ++ y ∷ []) k₂,
-              subst (λ (n : After ℕ State). Stands (limits_of l) n.left (with_entries (m.all_entries ++ y ∷ []) k₂)) (sym e.0) e.1,
-              subst (λ (n : After ℕ State). Sized (limits_of l) n.left) (sym e.0)
-                  (sized_entry_placed (limits_of l) y s₂ (record { left = omega arith; right = omega arith; amount = omega (arith, tested.1); «document» = omega (arith, tested.3) })
-                  (omega (arith, stands₂.entries.count, room, good.entries)) sized₂),
-              map-append entry_of m.all_entries (y ∷ []) ∙ ap₂ ◌++◌ h.entries (sym (pick_false (eqb x 0) [] (entry_of y ∷ []) some)),
-              refl,
-            ))
+        enters_it : Entered (limits_of l) (entered (limits_of l) y s₂) k₂ (f.entries ++ entry 0 1 x d)
+        enters_it =
+            enters (limits_of l) s₂ k₂ f.entries y good
+            (record { all = m.all_entries; sides = m.balances; stands = stands₂; sized = sized₂; entries = h.entries; balances = h.balances })
+            (record { left = omega arith; right = omega arith; amount = omega (arith, tested.1); «document» = omega (arith, tested.3) }) (omega arith) (omega arith)
+            (omega (arith, tested.0, stands₂.entries.count, h.stands.entries.count)) (omega (arith, tested.1, h.stands.frame.totals Booked, h.booked))
 
         -- the totals, and what all of it stands for
         received_means : Means (limits_of l) (received (limits_of l) k o q d s₁) (changed f c)
@@ -262,22 +262,25 @@ module _ (l : Limits) (s : State) (f : Firm) (k q : ℕ) (good : Good (limits_of
         received_means =
             subst (Means (limits_of l) (summed x s₃)) (sym changed_is) (record {
               kept = k₆;
-              stands = raised_stands (limits_of l) s₅ k₅ Documents 1 good (raised_stands (limits_of l) s₄ k₄ Booked x good (raised_stands (limits_of l) s₃ k₃ Worth x good entered_is.1));
-              documents = omega (arith, tested.3, ap (λ (n : Kept). n.totals Documents) entered_is.4, h.documents, documents_are);
-              booked = omega (arith, tested.1, ap (λ (n : Kept). n.totals Booked) entered_is.4, h.booked, h.stands.frame.totals Booked, sum_entry f.entries 0 1 x d);
-              worth = omega (arith, tested.2, ap (λ (n : Kept). n.totals Worth) entered_is.4, h.worth, h.stands.frame.totals Worth, worth_push f.lots (lot_of lot));
-              lots = λ i lt. ap (λ (n : Kept). map lot_of (n.lots_of i)) entered_is.4 ∙ lots_are i lt (cases_eq i o.item);
-              used = ap (λ (n : Kept). n.lots_used) entered_is.4 ∙ omega (arith, h.used, length_push f.lots (lot_of lot));
-              orders = ap (λ (n : Kept). map order_of n.all_orders) entered_is.4 ∙ map-set order_of m.all_orders k o' ∙ ap (λ (os : List firm.Order). set os k (order_of o')) h.orders;
-              entries = entered_is.3;
-              sized = sized_raised (limits_of l) Documents 1 s₅ (sized_raised (limits_of l) Booked x s₄ (sized_raised (limits_of l) Worth x s₃ entered_is.2));
+              stands = raised_stands (limits_of l) s₅ k₅ Documents 1 good (raised_stands (limits_of l) s₄ k₄ Booked x good (raised_stands (limits_of l) s₃ k₃ Worth x good enters_it.stands));
+              documents = omega (arith, tested.3, h.documents, documents_are);
+              booked = omega (arith, tested.1, h.booked, h.stands.frame.totals Booked, sum_entry f.entries 0 1 x d);
+              worth = omega (arith, tested.2, h.worth, h.stands.frame.totals Worth, worth_push f.lots (lot_of lot));
+              lots = λ i lt. lots_are i lt (cases_eq i o.item);
+              used = omega (arith, h.used, length_push f.lots (lot_of lot));
+              orders = map-set order_of m.all_orders k o' ∙ ap (λ (os : List firm.Order). set os k (order_of o')) h.orders;
+              entries = enters_it.entries;
+              stocks = λ i lt. stock_more f.lots lot i (m.stocks i) (h.stocks i lt) (omega (arith, on_hand_small (limits_of l) s f good h i lt, q_small))
+                  (omega (arith, worth_most f.lots i, tested.2, h.stands.frame.totals Worth, h.worth));
+              balances = enters_it.balances;
+              sized = sized_raised (limits_of l) Documents 1 s₅ (sized_raised (limits_of l) Booked x s₄ (sized_raised (limits_of l) Worth x s₃ enters_it.sized));
             })
           where
             s₃ : State
             s₃ = entered (limits_of l) y s₂
 
             k₃ : Kept
-            k₃ = entered_is.0
+            k₃ = with_balances enters_it.sides (with_entries enters_it.all k₂)
 
             s₄ : State
             s₄ = state (raised Worth x s₃.wide) s₃.narrow

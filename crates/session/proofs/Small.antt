@@ -1,26 +1,28 @@
 -- Words stay as many and as small: what each step leaves has as many words as were there, each below its bound. Assumes nothing.
-use Rattle.std.proofs.Common.{◌≡◌, ℕ, zero, suc, ◌+◌, ◌-◌, ◌^◌, ◌<◌, ◌≤◌, cond, eqb, List, [], ◌∷◌, length, get_or, drop, set, replicate, sym, refl, ap, ◌∙◌, subst, inl, inr, ⊎_elim, arith, length-append, length-drop, length-set, get_or-set_other, get_or-set_same}
+use Rattle.std.proofs.Common.{◌≡◌, ℕ, zero, suc, ◌+◌, ◌-◌, ◌^◌, ◌<◌, ◌≤◌, cond, eqb, ltb, List, [], ◌∷◌, length, get_or, drop, set, replicate, sym, refl, ap, ◌∙◌, subst, inl, inr, ⊎_elim, arith, length-append, length-drop, length-set, get_or-set_other, get_or-set_same}
 use Rattle.std.proofs.lemmas.List.{set_past, get_or_past, get_or_append_left, get_or-append_right, get_or-drop, get_or-replicate, length-replicate}
 use Rattle.std.proofs.lemmas.Bool.{cond_both, cases_lt, cases_eq, and_parts, leb-true}
 use Rattle.layout.specs.declared.limits.Limits.{Limits}
 use Rattle.layout.specs.declared.head.Total.{Total}
 use Rattle.layout.specs.declared.head.Counter.{Counter}
 use Rattle.layout.specs.declared.head.Counter.TheVariants.{Orders, Entries, Lots}
-use Rattle.layout.specs.Layout.{Good, lot_rows, order_rows, entry_rows, wide_need, narrow_need, count_at, total_at, order_at, lot_at, wide_lot_at, entry_at, wide_entry_at}
+use Rattle.layout.specs.Layout.{Good, lot_rows, order_rows, entry_rows, wide_need, narrow_need, count_at, total_at, order_at, lot_at, wide_lot_at, entry_at, wide_entry_at, balance_at, stock_at}
 use Rattle.links.specs.Area.{place_at, tail_at, header_of, after_in, tail_in, inserted, removed, emptied, chained, filled}
 use Rattle.links.specs.declared.shape.Shape.{Shape}
-use Rattle.memory.specs.Books.{count_of, put_count, put_total, order_record, put_order, put_lot, put_entry}
+use Rattle.memory.specs.Books.{count_of, put_count, put_total, order_record, put_order, put_lot, put_entry, balance_of, put_balance, stock_of, put_stock}
 use Rattle.memory.specs.Opened.{zeroed, with_limits, with_rows, opened}
-use Rattle.records.specs.Kind.{fits, word, over, Kind, lies, write}
-use Rattle.records.specs.Kinds.{lot_kind, order_kind, entry_kind}
+use Rattle.records.specs.Kind.{fits, word, over, Kind, lies, write, read_wide, write_wide}
+use Rattle.records.specs.Kinds.{lot_kind, order_kind, entry_kind, balance_kind, stock_kind}
 use Rattle.records.specs.State.{State, state}
+use Rattle.records.specs.declared.balance.Balance.{Balance}
 use Rattle.records.specs.declared.entry.Entry.{Entry}
 use Rattle.records.specs.declared.lot.Lot.{Lot}
 use Rattle.records.specs.declared.order.Order.{Order}
+use Rattle.records.specs.declared.stock.Stock.{Stock}
 use Rattle.records.proofs.Over.{length_over, over_same, over_other}
 use Rattle.rules.specs.Totals.{raised}
 use Rattle.session.specs.Means.{Below, Words, Sized}
-use Rattle.store.specs.Steps.{pushed, moved_in, lot_placed, order_placed, left_cell, right_cell, entry_linked, entry_placed}
+use Rattle.store.specs.Steps.{pushed, moved_in, lot_placed, order_placed, left_cell, right_cell, entry_linked, entry_placed, more_stock, lot_counted, more_left, more_right, left_posted, right_posted, post}
 
 below_set : (b : ℕ) (xs : List ℕ) (i v : ℕ) → v < b → Below b xs → Below b (set xs i v)
 below_set b xs i v lt h j =
@@ -192,6 +194,50 @@ sized_entry_placed l x s q few h =
     let u : State = state t.wide (pushed (entry_rows l) x.left (left_cell k) t.narrow) in
     sized_count l Entries (k + 1) (state t.wide (pushed (entry_rows l) x.right (right_cell k) u.narrow)) few
     (sized_pushed l (entry_rows l) x.right (right_cell k) u (omega arith) (sized_pushed l (entry_rows l) x.left (left_cell k) t (omega arith) (sized_put_entry l k x s q h)))
+
+-- KEPT SUMS are words, and so is what they become
+pub stock_small : (l : Limits) (i : ℕ) (s : State) → Sized l s → ((stock_of i s.wide).pieces < 2 ^ 64) × ((stock_of i s.wide).worth < 2 ^ 64)
+unfolding stock_of
+stock_small l i s h =
+    cond_both (fits (stock_at i) 2 s.wide) (stock_kind.made (word s.wide (stock_at i)) (word [] 0)) stock_kind.nothing (λ (x : Stock). (x.pieces < 2 ^ 64) × (x.worth < 2 ^ 64))
+    (λ _. (h.wide.small (stock_at i), h.wide.small (stock_at i + 1))) (λ _. (omega arith, omega arith))
+
+pub balance_small : (l : Limits) (a : ℕ) (s : State) → Sized l s → ((balance_of a s.wide).left < 2 ^ 64) × ((balance_of a s.wide).right < 2 ^ 64)
+unfolding balance_of
+balance_small l a s h =
+    cond_both (ltb a 16) (read_wide balance_kind (balance_at a) s.wide) balance_kind.nothing SmallBalance
+    (λ _. cond_both (fits (balance_at a) 2 s.wide) (balance_kind.made (word s.wide (balance_at a)) (word [] 0)) balance_kind.nothing SmallBalance
+    (λ _. (h.wide.small (balance_at a), h.wide.small (balance_at a + 1))) (λ _. (omega arith, omega arith)))
+    (λ _. (omega arith, omega arith))
+  where
+    SmallBalance : Balance → Type 0
+    SmallBalance x = (x.left < 2 ^ 64) × (x.right < 2 ^ 64)
+
+words_write : {X : Type 0} (k : Kind X) (n a : ℕ) (x : X) (w : List ℕ) → Below (2 ^ 64) (k.wide_words x) → length (k.wide_words x) ≡ k.wide_size → Words n (2 ^ 64) w → Words n (2 ^ 64) (write_wide k a x w)
+words_write k n a x w small long h =
+    cond_both (fits a k.wide_size w) (over a (k.wide_words x) w) w (Words n (2 ^ 64)) (λ e. words_over n (2 ^ 64) a (k.wide_words x) w (omega (arith, leb-true _ _ e)) small h) (λ _. h)
+
+pub sized_lot_counted : (l : Limits) (x : Lot) (s : State) → Sized l s → Sized l (state (lot_counted l x s.wide) s.narrow)
+unfolding lot_counted put_stock
+sized_lot_counted l x s h =
+    let y : Stock = more_stock (stock_of x.item s.wide) x.pieces x.cost in
+    cond_both (ltb x.item l.items) (write_wide stock_kind (stock_at x.item) y s.wide) s.wide (λ (w : List ℕ). Sized l (state w s.narrow))
+    (λ _. record { wide = words_write stock_kind (wide_need l) (stock_at x.item) y s.wide (below_two (2 ^ 64) y.pieces y.worth (omega arith) (omega arith)) refl h.wide; narrow = h.narrow })
+    (λ _. h)
+
+sized_put_balance : (l : Limits) (a : ℕ) (y : Balance) (s : State) → y.left < 2 ^ 64 → y.right < 2 ^ 64 → Sized l s → Sized l (state (put_balance a y s.wide) s.narrow)
+unfolding put_balance
+sized_put_balance l a y s left right h =
+    cond_both (ltb a 16) (write_wide balance_kind (balance_at a) y s.wide) s.wide (λ (w : List ℕ). Sized l (state w s.narrow))
+    (λ _. record { wide = words_write balance_kind (wide_need l) (balance_at a) y s.wide (below_two (2 ^ 64) y.left y.right left right) refl h.wide; narrow = h.narrow })
+    (λ _. h)
+
+pub sized_post : (l : Limits) (x : Entry) (s : State) → Sized l s → Sized l (state (post x s.wide) s.narrow)
+unfolding left_posted right_posted
+sized_post l x s h =
+    let t : State = state (left_posted x.left x.amount s.wide) s.narrow in
+    let ht : Sized l t = sized_put_balance l x.left (more_left (balance_of x.left s.wide) x.amount) s (omega arith) (balance_small l x.left s h).1 h in
+    sized_put_balance l x.right (more_right (balance_of x.right t.wide) x.amount) t (balance_small l x.right t ht).0 (omega arith) ht
 
 -- OPENED MEMORY
 words_zeroed : (b k : ℕ) (xs : List ℕ) → 0 < b → length xs ≡ k → Words k b (zeroed k xs)

@@ -1,9 +1,10 @@
 -- What the words stand for: a firm of the meaning. Said by what is kept, never by addresses; where a lot lies depends on the past, and may.
 -- Definitions only: nothing is assumed.
 use Rattle.std.specs.Prelude.{◌≡◌, ℕ, ◌^◌, ◌<◌, List, map, length, slice_index}
-use Rattle.firm.specs.Stock.{all_worth, of_item}
+use Rattle.firm.specs.Stock as stock
+use Rattle.firm.specs.Stock.{on_hand, worth, all_worth, of_item}
 use Rattle.firm.specs.Ledger as ledger
-use Rattle.firm.specs.Ledger.{sum_of}
+use Rattle.firm.specs.Ledger.{left_side, right_side, sum_of}
 use Rattle.firm.specs.Firm as firm
 use Rattle.firm.specs.Firm.{Firm}
 use Rattle.firm.specs.Calls as calls
@@ -12,8 +13,10 @@ use Rattle.layout.specs.declared.head.Total.TheVariants.{Documents, Booked, Wort
 use Rattle.layout.specs.declared.limits.Limits.{Limits}
 use Rattle.questions.specs.Listing.{lot_of}
 use Rattle.records.specs.State.{State}
+use Rattle.records.specs.declared.balance.Balance.{Balance}
 use Rattle.records.specs.declared.entry.Entry.{Entry}
 use Rattle.records.specs.declared.order.Order.{Order}
+use Rattle.records.specs.declared.stock.Stock.{Stock}
 use Rattle.store.specs.View.{Kept, Stands}
 
 -- records of memory as those of the books
@@ -22,6 +25,13 @@ order_of x = record { sells = x.sells; item = x.item; pieces = x.pieces; price =
 
 abbrev pub entry_of : Entry → ledger.Entry
 entry_of x = record { on_left = x.left; on_right = x.right; amount = x.amount; document = x.«document» }
+
+-- the sums of an item over the lots of the books, and of an account over their entries
+abbrev pub stock_sums : List stock.Lot → ℕ → Stock
+stock_sums ls i = record { pieces = on_hand ls i; worth = worth ls i }
+
+abbrev pub account_sums : List ledger.Entry → ℕ → Balance
+account_sums es a = record { left = left_side es a; right = right_side es a }
 
 -- limits of the meaning as those of memory
 abbrev pub limits_of : calls.Limits → Limits
@@ -41,7 +51,7 @@ pub record Sized (l : Limits) (s : State) : Type 0 where
   pub narrow : Words (narrow_need l) (2 ^ 32) s.narrow
 
 -- Memory means the firm where what it keeps is what the firm has: as many documents, entries and lots that come to as much, each item's lots from
--- the oldest on, and all orders and entries by number
+-- the oldest on and what they come to, all orders and entries by number, and what these come to on each account
 pub record Means (l : Limits) (s : State) (f : Firm) : Type 0 where
   pub kept : Kept
   pub stands : Stands l s kept
@@ -52,4 +62,6 @@ pub record Means (l : Limits) (s : State) (f : Firm) : Type 0 where
   pub used : kept.lots_used ≡ length f.lots
   pub orders : map order_of kept.all_orders ≡ f.orders
   pub entries : map entry_of kept.all_entries ≡ f.entries
+  pub stocks : (i : ℕ) → i < l.items → kept.stocks i ≡ stock_sums f.lots i
+  pub balances : (a : ℕ) → a < 9 → kept.balances a ≡ account_sums f.entries a
   pub sized : Sized l s

@@ -3,7 +3,7 @@ use Rattle.std.proofs.Common.{◌≡◌, ℕ, ◌≢◌, ap, arith}
 use Rattle.layout.proofs.Owners.{number, differ}
 use Rattle.layout.proofs.Placed.{only_wide_none}
 use Rattle.layout.specs.Layout.{Good}
-use Rattle.layout.specs.Words.{Owner, limits, totals, counters, orders, order_links, lots, lot_links, recipes, parts, entries, entry_links}
+use Rattle.layout.specs.Words.{Owner, limits, totals, balances, stocks, counters, orders, order_links, lots, lot_links, recipes, parts, entries, entry_links}
 use Rattle.layout.specs.declared.head.Counter.{Counter}
 use Rattle.layout.specs.declared.head.Counter.TheVariants.{Orders, Entries, Parts, Lots}
 use Rattle.layout.specs.declared.limits.Limits.{Limits}
@@ -11,8 +11,8 @@ use Rattle.memory.proofs.Head.{count_kept, count_other, count_within}
 use Rattle.memory.specs.Books.{count_of, put_count}
 use Rattle.memory.specs.Slots.{Within}
 use Rattle.records.specs.State.{State, state}
-use Rattle.store.specs.View.{Kept, Frame, LotsStand, OrdersStand, EntriesStand, RecipesStand}
-use Rattle.store.proofs.Kept.{frame_kept, lots_kept, orders_kept, entries_kept, recipes_kept}
+use Rattle.store.specs.View.{Kept, Frame, LotsStand, OrdersStand, EntriesStand, RecipesStand, SumsStand}
+use Rattle.store.proofs.Kept.{frame_kept, lots_kept, orders_kept, entries_kept, recipes_kept, sums_kept}
 
 -- no counter but c has changed
 abbrev CountsKept : Counter → State → State → Type 0
@@ -42,6 +42,7 @@ pub record BesideLots (l : Limits) (s : State) (b : Kept) : Type 0 where
   pub orders : OrdersStand l s b.all_orders
   pub entries : EntriesStand l s b.all_entries
   pub recipes : RecipesStand l s b.all_parts b.recipes
+  pub sums : SumsStand l s b.stocks b.balances
 
 beside_lots : (l : Limits) (s s' : State) (b : Kept) (y : Owner) → Good l → Among 6 7 y → CountsKept Lots s s' → Within y l s s' → BesideLots l s b → BesideLots l s' b
 beside_lots l s s' b y good far counts with_in h = record {
@@ -49,6 +50,7 @@ beside_lots l s s' b y good far counts with_in h = record {
   orders = orders_kept l s s' good y with_in b.all_orders (far orders (λ e. omega arith) (λ e. omega arith) (λ e. omega arith)) (far order_links (λ e. omega arith) (λ e. omega arith) (λ e. omega arith)) (counts Orders (unlike Orders Lots (λ e. omega arith))) h.orders;
   entries = entries_kept l s s' good y with_in b.all_entries (far entries (λ e. omega arith) (λ e. omega arith) (λ e. omega arith)) (far entry_links (λ e. omega arith) (λ e. omega arith) (λ e. omega arith)) (counts Entries (unlike Entries Lots (λ e. omega arith))) h.entries;
   recipes = recipes_kept l s s' good y with_in b.all_parts b.recipes (far parts (λ e. omega arith) (λ e. omega arith) (λ e. omega arith)) (far recipes (λ e. omega arith) (λ e. omega arith) (λ e. omega arith)) (counts Parts (unlike Parts Lots (λ e. omega arith))) h.recipes;
+  sums = sums_kept l s s' good y with_in b.stocks b.balances (far stocks (λ e. omega arith) (λ e. omega arith) (λ e. omega arith)) (far balances (λ e. omega arith) (λ e. omega arith) (λ e. omega arith)) h.sums;
 }
 
 pub beside_lots_at_lots : (l : Limits) (s s' : State) (b : Kept) → Good l → Within lots l s s' → BesideLots l s b → BesideLots l s' b
@@ -66,6 +68,7 @@ pub record BesideOrders (l : Limits) (s : State) (b : Kept) : Type 0 where
   pub lots : LotsStand l s b.lots_of b.lots_used
   pub entries : EntriesStand l s b.all_entries
   pub recipes : RecipesStand l s b.all_parts b.recipes
+  pub sums : SumsStand l s b.stocks b.balances
 
 beside_orders : (l : Limits) (s s' : State) (b : Kept) (y : Owner) → Good l → Among 4 5 y → CountsKept Orders s s' → Within y l s s' → BesideOrders l s b → BesideOrders l s' b
 beside_orders l s s' b y good far counts with_in h = record {
@@ -73,6 +76,7 @@ beside_orders l s s' b y good far counts with_in h = record {
   lots = lots_kept l s s' good y with_in b.lots_of b.lots_used (far lots (λ e. omega arith) (λ e. omega arith) (λ e. omega arith)) (far lot_links (λ e. omega arith) (λ e. omega arith) (λ e. omega arith)) (counts Lots (unlike Lots Orders (λ e. omega arith))) h.lots;
   entries = entries_kept l s s' good y with_in b.all_entries (far entries (λ e. omega arith) (λ e. omega arith) (λ e. omega arith)) (far entry_links (λ e. omega arith) (λ e. omega arith) (λ e. omega arith)) (counts Entries (unlike Entries Orders (λ e. omega arith))) h.entries;
   recipes = recipes_kept l s s' good y with_in b.all_parts b.recipes (far parts (λ e. omega arith) (λ e. omega arith) (λ e. omega arith)) (far recipes (λ e. omega arith) (λ e. omega arith) (λ e. omega arith)) (counts Parts (unlike Parts Orders (λ e. omega arith))) h.recipes;
+  sums = sums_kept l s s' good y with_in b.stocks b.balances (far stocks (λ e. omega arith) (λ e. omega arith) (λ e. omega arith)) (far balances (λ e. omega arith) (λ e. omega arith) (λ e. omega arith)) h.sums;
 }
 
 pub beside_orders_at_orders : (l : Limits) (s s' : State) (b : Kept) → Good l → Within orders l s s' → BesideOrders l s b → BesideOrders l s' b
@@ -90,6 +94,7 @@ pub record BesideEntries (l : Limits) (s : State) (b : Kept) : Type 0 where
   pub lots : LotsStand l s b.lots_of b.lots_used
   pub orders : OrdersStand l s b.all_orders
   pub recipes : RecipesStand l s b.all_parts b.recipes
+  pub sums : SumsStand l s b.stocks b.balances
 
 beside_entries : (l : Limits) (s s' : State) (b : Kept) (y : Owner) → Good l → Among 10 11 y → CountsKept Entries s s' → Within y l s s' → BesideEntries l s b → BesideEntries l s' b
 beside_entries l s s' b y good far counts with_in h = record {
@@ -97,6 +102,7 @@ beside_entries l s s' b y good far counts with_in h = record {
   lots = lots_kept l s s' good y with_in b.lots_of b.lots_used (far lots (λ e. omega arith) (λ e. omega arith) (λ e. omega arith)) (far lot_links (λ e. omega arith) (λ e. omega arith) (λ e. omega arith)) (counts Lots (unlike Lots Entries (λ e. omega arith))) h.lots;
   orders = orders_kept l s s' good y with_in b.all_orders (far orders (λ e. omega arith) (λ e. omega arith) (λ e. omega arith)) (far order_links (λ e. omega arith) (λ e. omega arith) (λ e. omega arith)) (counts Orders (unlike Orders Entries (λ e. omega arith))) h.orders;
   recipes = recipes_kept l s s' good y with_in b.all_parts b.recipes (far parts (λ e. omega arith) (λ e. omega arith) (λ e. omega arith)) (far recipes (λ e. omega arith) (λ e. omega arith) (λ e. omega arith)) (counts Parts (unlike Parts Entries (λ e. omega arith))) h.recipes;
+  sums = sums_kept l s s' good y with_in b.stocks b.balances (far stocks (λ e. omega arith) (λ e. omega arith) (λ e. omega arith)) (far balances (λ e. omega arith) (λ e. omega arith) (λ e. omega arith)) h.sums;
 }
 
 pub beside_entries_at_entries : (l : Limits) (s s' : State) (b : Kept) → Good l → Within entries l s s' → BesideEntries l s b → BesideEntries l s' b
@@ -114,6 +120,7 @@ pub record BesideRecipes (l : Limits) (s : State) (b : Kept) : Type 0 where
   pub lots : LotsStand l s b.lots_of b.lots_used
   pub orders : OrdersStand l s b.all_orders
   pub entries : EntriesStand l s b.all_entries
+  pub sums : SumsStand l s b.stocks b.balances
 
 beside_recipes : (l : Limits) (s s' : State) (b : Kept) (y : Owner) → Good l → Among 8 9 y → CountsKept Parts s s' → Within y l s s' → BesideRecipes l s b → BesideRecipes l s' b
 beside_recipes l s s' b y good far counts with_in h = record {
@@ -121,6 +128,7 @@ beside_recipes l s s' b y good far counts with_in h = record {
   lots = lots_kept l s s' good y with_in b.lots_of b.lots_used (far lots (λ e. omega arith) (λ e. omega arith) (λ e. omega arith)) (far lot_links (λ e. omega arith) (λ e. omega arith) (λ e. omega arith)) (counts Lots (unlike Lots Parts (λ e. omega arith))) h.lots;
   orders = orders_kept l s s' good y with_in b.all_orders (far orders (λ e. omega arith) (λ e. omega arith) (λ e. omega arith)) (far order_links (λ e. omega arith) (λ e. omega arith) (λ e. omega arith)) (counts Orders (unlike Orders Parts (λ e. omega arith))) h.orders;
   entries = entries_kept l s s' good y with_in b.all_entries (far entries (λ e. omega arith) (λ e. omega arith) (λ e. omega arith)) (far entry_links (λ e. omega arith) (λ e. omega arith) (λ e. omega arith)) (counts Entries (unlike Entries Parts (λ e. omega arith))) h.entries;
+  sums = sums_kept l s s' good y with_in b.stocks b.balances (far stocks (λ e. omega arith) (λ e. omega arith) (λ e. omega arith)) (far balances (λ e. omega arith) (λ e. omega arith) (λ e. omega arith)) h.sums;
 }
 
 pub beside_recipes_at_parts : (l : Limits) (s s' : State) (b : Kept) → Good l → Within parts l s s' → BesideRecipes l s b → BesideRecipes l s' b

@@ -27,10 +27,10 @@ use Rattle.store.proofs.Tables.{table_push, when_lt, when_ge}
 
 -- all but the entries
 beside : (l : Limits) (s : State) (b : Kept) → Stands l s b → BesideEntries l s b
-beside l s b st = record { frame = st.frame; lots = st.lots; orders = st.orders; recipes = st.recipes }
+beside l s b st = record { frame = st.frame; lots = st.lots; orders = st.orders; recipes = st.recipes; sums = st.sums }
 
 joined : (l : Limits) (s : State) (b : Kept) (es : List Entry) → BesideEntries l s b → EntriesStand l s es → Stands l s (with_entries es b)
-joined l s b es rest h = record { frame = rest.frame; lots = rest.lots; orders = rest.orders; entries = h; recipes = rest.recipes }
+joined l s b es rest h = record { frame = rest.frame; lots = rest.lots; orders = rest.orders; entries = h; recipes = rest.recipes; sums = rest.sums }
 
 module _ (l : Limits) (s : State) (b : Kept) (x : Entry) (good : Good l) (st : Stands l s b) (il : x.left < 16) (ir : x.right < 16) (less : length b.all_entries < l.entries) where
   abbrev es : List Entry

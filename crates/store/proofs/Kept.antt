@@ -2,7 +2,7 @@
 use Rattle.std.proofs.Common.{◌≡◌, ℕ, ◌<◌, ◌≢◌, List, [], ◌∷◌, map, refl, ◌∙◌, ap₂, arith}
 use Rattle.layout.proofs.Placed.{lot_rows_placed, order_rows_placed, entry_rows_placed, rows_kept}
 use Rattle.layout.specs.Layout.{Good, lot_rows, order_rows, entry_rows}
-use Rattle.layout.specs.Words.{Owner, limits, totals, orders, order_links, lots, lot_links, recipes, parts, entries, entry_links}
+use Rattle.layout.specs.Words.{Owner, limits, totals, balances, stocks, orders, order_links, lots, lot_links, recipes, parts, entries, entry_links}
 use Rattle.layout.specs.declared.head.Counter.TheVariants.{Orders, Entries, Parts, Lots}
 use Rattle.layout.specs.declared.head.Total.{Total}
 use Rattle.layout.specs.declared.limits.Limits.{Limits}
@@ -10,16 +10,18 @@ use Rattle.links.proofs.Counts.{count_here}
 use Rattle.links.proofs.Laws.{cell_is}
 use Rattle.links.specs.Model.{row, count}
 use Rattle.memory.proofs.Head.{limits_kept, total_kept}
-use Rattle.memory.proofs.Slots.{order_slots, lot_slots, entry_slots, part_slots, recipe_slots}
+use Rattle.memory.proofs.Slots.{order_slots, lot_slots, entry_slots, part_slots, recipe_slots, stock_slots, balance_slots}
 use Rattle.memory.specs.Books.{count_of, lot_record}
 use Rattle.memory.specs.Slots.{Within}
 use Rattle.records.specs.State.{State}
+use Rattle.records.specs.declared.balance.Balance.{Balance}
 use Rattle.records.specs.declared.entry.Entry.{Entry}
 use Rattle.records.specs.declared.lot.Lot.{Lot}
 use Rattle.records.specs.declared.order.Order.{Order}
 use Rattle.records.specs.declared.part.Part.{Part}
 use Rattle.records.specs.declared.recipe.Recipe.{Recipe}
-use Rattle.store.specs.View.{Frame, LotsStand, OrdersStand, EntriesStand, RecipesStand}
+use Rattle.records.specs.declared.stock.Stock.{Stock}
+use Rattle.store.specs.View.{Frame, LotsStand, OrdersStand, EntriesStand, RecipesStand, SumsStand}
 
 -- a map stays where each of its values does
 pub map_same : {X : Type 0} (f g : ℕ → X) (xs : List ℕ) → ((c : ℕ) → 0 < count c xs → f c ≡ g c) → map f xs ≡ map g xs
@@ -78,4 +80,10 @@ module _ (l : Limits) (s s' : State) (good : Good l) (y : Owner) (with_in : With
     few = h.few;
     each = λ k lt. (part_slots l).kept k y s s' (omega (arith, h.few)) ne with_in ∙ h.each k lt;
     first = λ i lt. (recipe_slots l).kept i y s s' lt ne' with_in ∙ h.first i lt;
+  }
+
+  pub sums_kept : (of : ℕ → Stock) (on : ℕ → Balance) → stocks ≢ y → balances ≢ y → SumsStand l s of on → SumsStand l s' of on
+  sums_kept of on ne ne' h = record {
+    stocks = λ i lt. (stock_slots l).kept i y s s' lt ne with_in ∙ h.stocks i lt;
+    balances = λ a lt. (balance_slots l).kept a y s s' lt ne' with_in ∙ h.balances a lt;
   }

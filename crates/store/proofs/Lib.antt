@@ -9,4 +9,5 @@ pub mod OrderLaws
 pub mod EntryLaws
 pub mod RecipeLaws
 pub mod TotalLaws
+pub mod SumLaws
 pub mod Opening

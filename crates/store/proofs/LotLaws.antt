@@ -30,10 +30,10 @@ use Rattle.store.proofs.Tables.{at_same, at_other, when_lt}
 
 -- all but the lots
 pub beside : (l : Limits) (s : State) (b : Kept) → Stands l s b → BesideLots l s b
-beside l s b st = record { frame = st.frame; orders = st.orders; entries = st.entries; recipes = st.recipes }
+beside l s b st = record { frame = st.frame; orders = st.orders; entries = st.entries; recipes = st.recipes; sums = st.sums }
 
 pub joined : (l : Limits) (s : State) (b : Kept) (i : ℕ) (xs : List Lot) (n : ℕ) → BesideLots l s b → LotsStand l s (with_lots i xs n b).lots_of n → Stands l s (with_lots i xs n b)
-joined l s b i xs n rest h = record { frame = rest.frame; lots = h; orders = rest.orders; entries = rest.entries; recipes = rest.recipes }
+joined l s b i xs n rest h = record { frame = rest.frame; lots = h; orders = rest.orders; entries = rest.entries; recipes = rest.recipes; sums = rest.sums }
 
 -- A LOT COMES, on the first free cell c
 module _ (l : Limits) (s : State) (b : Kept) (x : Lot) (good : Good l) (st : Stands l s b) (it : x.item < l.items) (c : ℕ) (rest : List ℕ) (is : row st.lots.places l.items ≡ c ∷ rest) where
@@ -109,6 +109,10 @@ module _ (l : Limits) (s : State) (b : Kept) (x : Lot) (good : Good l) (st : Sta
   free_row : row places l.items ≡ rest
   free_row = get_or-set_other (set m l.items rest) x.item l.items _ [] (λ e. omega arith) ∙ get_or-set_same m l.items rest [] (omega (arith, many))
 
+  lot_there : lot_record l c (lot_placed l c x s) ≡ x
+  unfolding lot_placed
+  lot_there = later c inside ∙ (lot_slots l).same c x s st.frame.roomy inside
+
   lot_comes : Stands l (lot_placed l c x s) (with_lots x.item (b.lots_of x.item ++ x ∷ []) (b.lots_used + 1) b)
   unfolding lot_placed
   lot_comes =
@@ -127,12 +131,13 @@ pub adds_lot : AddsLot
 adds_lot l s b x good st it less = by (row st.lots.places l.items) refl
   where
     by : (xs : List ℕ) → row st.lots.places l.items ≡ xs →
-        (c : ℕ) × (c < l.lots) × (add_lot l x s ≡ after (Ok c) (lot_placed l c x s)) × Stands l (lot_placed l c x s) (with_lots x.item (b.lots_of x.item ++ x ∷ []) (b.lots_used + 1) b)
+        (c : ℕ) × (c < l.lots) × (add_lot l x s ≡ after (Ok c) (lot_placed l c x s)) × (lot_record l c (lot_placed l c x s) ≡ x) × Stands l (lot_placed l c x s) (with_lots x.item (b.lots_of x.item ++ x ∷ []) (b.lots_used + 1) b)
     by [] e = absurd (omega (arith, st.lots.free, ap length e))
     by (c ∷ rest) e = (
       c,
       inside l s b x good st it c rest e,
       when_lt x.item l.items _ _ it ∙ ap (on_free l x s) (first_is (lot_rows l) s.narrow st.lots.places l.items (lot_rows_placed l good).sound st.lots.held (omega (arith, good.items)) ∙ ap first e),
+      lot_there l s b x good st it c rest e,
       lot_comes l s b x good st it c rest e,
     )
 

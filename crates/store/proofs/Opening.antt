@@ -20,6 +20,7 @@ use Rattle.store.proofs.OrderLaws.{adds_order, refuses_order, sets_order, reads_
 use Rattle.store.proofs.EntryLaws.{adds_entry, refuses_entry, reads_entry, walks_entries}
 use Rattle.store.proofs.RecipeLaws.{adds_part, refuses_part, adds_recipe, refuses_recipe}
 use Rattle.store.proofs.TotalLaws.{puts_total}
+use Rattle.store.proofs.SumLaws.{counts_in, posts}
 
 empty_stands : (l : Limits) (s : State) → Empty l s → Stands l s nothing_kept
 empty_stands l s e = record {
@@ -48,6 +49,7 @@ empty_stands l s e = record {
     of_account = λ a lt. get_or-replicate 16 a [] [] lt;
   };
   recipes = record { count = e.counts Parts; few = omega arith; each = λ k lt. absurd (omega arith); first = e.recipes };
+  sums = record { stocks = e.stocks; balances = e.balances };
 }
   where
     all : List (List ℕ)
@@ -82,4 +84,6 @@ store_laws = record {
   adds_recipe = adds_recipe;
   refuses_recipe = refuses_recipe;
   puts_total = puts_total;
+  counts_in = counts_in;
+  posts = posts;
 }

@@ -26,10 +26,10 @@ use Rattle.store.proofs.Tables.{table_push, table_set, when_lt, when_ge}
 
 -- all but the orders
 beside : (l : Limits) (s : State) (b : Kept) → Stands l s b → BesideOrders l s b
-beside l s b st = record { frame = st.frame; lots = st.lots; entries = st.entries; recipes = st.recipes }
+beside l s b st = record { frame = st.frame; lots = st.lots; entries = st.entries; recipes = st.recipes; sums = st.sums }
 
 joined : (l : Limits) (s : State) (b : Kept) (os : List Order) → BesideOrders l s b → OrdersStand l s os → Stands l s (with_orders os b)
-joined l s b os rest h = record { frame = rest.frame; lots = rest.lots; orders = h; entries = rest.entries; recipes = rest.recipes }
+joined l s b os rest h = record { frame = rest.frame; lots = rest.lots; orders = h; entries = rest.entries; recipes = rest.recipes; sums = rest.sums }
 
 module _ (l : Limits) (s : State) (b : Kept) (x : Order) (good : Good l) (st : Stands l s b) (it : x.item < l.items) (less : length b.all_orders < l.orders) where
   abbrev os : List Order

@@ -23,7 +23,7 @@ use Rattle.store.proofs.Tables.{table_push, at_same, at_other, when_lt, when_ge}
 
 -- all but the recipes
 beside : (l : Limits) (s : State) (b : Kept) → Stands l s b → BesideRecipes l s b
-beside l s b st = record { frame = st.frame; lots = st.lots; orders = st.orders; entries = st.entries }
+beside l s b st = record { frame = st.frame; lots = st.lots; orders = st.orders; entries = st.entries; sums = st.sums }
 
 module _ (l : Limits) (s : State) (b : Kept) (x : Part) (good : Good l) (st : Stands l s b) (less : length b.all_parts < l.parts) where
   abbrev ps : List Part
@@ -59,6 +59,7 @@ module _ (l : Limits) (s : State) (b : Kept) (x : Part) (good : Good l) (st : St
         lots = rest.lots;
         orders = rest.orders;
         entries = rest.entries;
+        sums = rest.sums;
         recipes = record {
           count = count_same Parts (k + 1) s₁.narrow (omega (arith, w₁.narrow.long, st.frame.roomy.narrow)) ∙ omega (arith, is, length_push ps x);
           few = omega (arith, length_push ps x);
@@ -90,6 +91,7 @@ recipe_put l s b i r good st it =
       lots = rest.lots;
       orders = rest.orders;
       entries = rest.entries;
+      sums = rest.sums;
       recipes = record {
         count = count_kept Parts recipes l s.narrow t.narrow (differ _ _ (λ e. omega arith)) w.narrow ∙ st.recipes.count;
         few = st.recipes.few;

@@ -12,7 +12,7 @@ use Rattle.memory.specs.Books.{total_of, put_total}
 use Rattle.memory.specs.Slots.{Within}
 use Rattle.records.specs.State.{State, state}
 use Rattle.store.specs.Laws.{PutsTotal}
-use Rattle.store.proofs.Kept.{lots_kept, orders_kept, entries_kept, recipes_kept}
+use Rattle.store.proofs.Kept.{lots_kept, orders_kept, entries_kept, recipes_kept, sums_kept}
 
 -- totals that lie at one place are one
 same_place : (u t : Total) → total_at u ≡ total_at t → u ≡ t
@@ -37,6 +37,7 @@ puts_total l s b t v good st = record {
   orders = orders_kept l s s' good totals with_in b.all_orders (differ _ _ (λ e. omega arith)) (differ _ _ (λ e. omega arith)) refl st.orders;
   entries = entries_kept l s s' good totals with_in b.all_entries (differ _ _ (λ e. omega arith)) (differ _ _ (λ e. omega arith)) refl st.entries;
   recipes = recipes_kept l s s' good totals with_in b.all_parts b.recipes (differ _ _ (λ e. omega arith)) (differ _ _ (λ e. omega arith)) refl st.recipes;
+  sums = sums_kept l s s' good totals with_in b.stocks b.balances (differ _ _ (λ e. omega arith)) (differ _ _ (λ e. omega arith)) st.sums;
 }
   where
     s' : State

@@ -1,4 +1,4 @@
--- What each function does to the lists that are kept: it changes the list that it is about, and no other.
+-- What each function does to what is kept: it changes the list or the sums that it is about, and no other.
 use Rattle.std.specs.Prelude.{◌≡◌, ℕ, ◌+◌, ◌-◌, ◌/◌, ◌<◌, cond, List, [], ◌∷◌, ◌++◌, map, length, Ok, Err, Option, ◌==◌, slice_index_or, slice_set}
 use Rattle.layout.specs.Layout.{total_at, Good}
 use Rattle.layout.specs.declared.head.Total.{Total}
@@ -10,47 +10,55 @@ use Rattle.memory.specs.Slots.{Roomy}
 use Rattle.memory.specs.Opened.{opened}
 use Rattle.records.specs.Kinds.{order_kind}
 use Rattle.records.specs.State.{State, state}
+use Rattle.records.specs.declared.balance.Balance.{Balance}
 use Rattle.records.specs.declared.entry.Entry.{Entry}
 use Rattle.records.specs.declared.lot.Lot.{Lot}
 use Rattle.records.specs.declared.order.Order.{Order}
 use Rattle.records.specs.declared.part.Part.{Part}
 use Rattle.records.specs.declared.recipe.Recipe.{Recipe}
-use Rattle.store.specs.Steps.{after, lot_placed, lot_freed, add_lot, remove_lot, nth_lot, first_lot, lot_after, first_order, order_after, first_entry, entry_after, order_placed, add_order, set_order, nth_order, entry_placed, add_entry, nth_entry, part_placed, add_part, front, recipe_placed, add_recipe}
+use Rattle.records.specs.declared.stock.Stock.{Stock}
+use Rattle.store.specs.Steps.{after, lot_placed, lot_freed, add_lot, remove_lot, nth_lot, first_lot, lot_after, first_order, order_after, first_entry, entry_after, order_placed, add_order, set_order, nth_order, entry_placed, add_entry, nth_entry, part_placed, add_part, front, recipe_placed, add_recipe, sum, more_stock, lot_counted, post}
 use Rattle.store.specs.View.{Kept, numbers, entries_of, Stands}
 use Rattle.store.specs.declared.refusal.Refusal.TheVariants.{NoLot, Full}
 
--- THE LISTS with a change
+-- WHAT IS KEPT with a change
 abbrev pub nothing_kept : Kept
-nothing_kept = record { lots_of = λ i. []; lots_used = 0; all_orders = []; all_entries = []; all_parts = []; recipes = λ i. record { first = 0; parts = 0 }; totals = λ t. 0 }
+nothing_kept = record { lots_of = λ i. []; lots_used = 0; all_orders = []; all_entries = []; all_parts = []; recipes = λ i. record { first = 0; parts = 0 }; totals = λ t. 0; stocks = λ i. record { pieces = 0; worth = 0 }; balances = λ a. record { left = 0; right = 0 } }
 
 -- the list of item i, and how many lots there are then
 abbrev pub with_lots : ℕ → List Lot → ℕ → Kept → Kept
-with_lots i xs many b = record { lots_of = λ j. cond (j == i) xs (b.lots_of j); lots_used = many; all_orders = b.all_orders; all_entries = b.all_entries; all_parts = b.all_parts; recipes = b.recipes; totals = b.totals }
+with_lots i xs many b = record { lots_of = λ j. cond (j == i) xs (b.lots_of j); lots_used = many; all_orders = b.all_orders; all_entries = b.all_entries; all_parts = b.all_parts; recipes = b.recipes; totals = b.totals; stocks = b.stocks; balances = b.balances }
 
 abbrev pub with_orders : List Order → Kept → Kept
-with_orders os b = record { lots_of = b.lots_of; lots_used = b.lots_used; all_orders = os; all_entries = b.all_entries; all_parts = b.all_parts; recipes = b.recipes; totals = b.totals }
+with_orders os b = record { lots_of = b.lots_of; lots_used = b.lots_used; all_orders = os; all_entries = b.all_entries; all_parts = b.all_parts; recipes = b.recipes; totals = b.totals; stocks = b.stocks; balances = b.balances }
 
 abbrev pub with_entries : List Entry → Kept → Kept
-with_entries es b = record { lots_of = b.lots_of; lots_used = b.lots_used; all_orders = b.all_orders; all_entries = es; all_parts = b.all_parts; recipes = b.recipes; totals = b.totals }
+with_entries es b = record { lots_of = b.lots_of; lots_used = b.lots_used; all_orders = b.all_orders; all_entries = es; all_parts = b.all_parts; recipes = b.recipes; totals = b.totals; stocks = b.stocks; balances = b.balances }
 
 abbrev pub with_parts : List Part → Kept → Kept
-with_parts ps b = record { lots_of = b.lots_of; lots_used = b.lots_used; all_orders = b.all_orders; all_entries = b.all_entries; all_parts = ps; recipes = b.recipes; totals = b.totals }
+with_parts ps b = record { lots_of = b.lots_of; lots_used = b.lots_used; all_orders = b.all_orders; all_entries = b.all_entries; all_parts = ps; recipes = b.recipes; totals = b.totals; stocks = b.stocks; balances = b.balances }
 
 abbrev pub with_recipe : ℕ → Recipe → Kept → Kept
-with_recipe i r b = record { lots_of = b.lots_of; lots_used = b.lots_used; all_orders = b.all_orders; all_entries = b.all_entries; all_parts = b.all_parts; recipes = λ j. cond (j == i) r (b.recipes j); totals = b.totals }
+with_recipe i r b = record { lots_of = b.lots_of; lots_used = b.lots_used; all_orders = b.all_orders; all_entries = b.all_entries; all_parts = b.all_parts; recipes = λ j. cond (j == i) r (b.recipes j); totals = b.totals; stocks = b.stocks; balances = b.balances }
 
 abbrev pub with_total : Total → ℕ → Kept → Kept
-with_total t v b = record { lots_of = b.lots_of; lots_used = b.lots_used; all_orders = b.all_orders; all_entries = b.all_entries; all_parts = b.all_parts; recipes = b.recipes; totals = λ u. cond (total_at u == total_at t) v (b.totals u) }
+with_total t v b = record { lots_of = b.lots_of; lots_used = b.lots_used; all_orders = b.all_orders; all_entries = b.all_entries; all_parts = b.all_parts; recipes = b.recipes; totals = λ u. cond (total_at u == total_at t) v (b.totals u); stocks = b.stocks; balances = b.balances }
+
+abbrev pub with_stocks : (ℕ → Stock) → Kept → Kept
+with_stocks of b = record { lots_of = b.lots_of; lots_used = b.lots_used; all_orders = b.all_orders; all_entries = b.all_entries; all_parts = b.all_parts; recipes = b.recipes; totals = b.totals; stocks = of; balances = b.balances }
+
+abbrev pub with_balances : (ℕ → Balance) → Kept → Kept
+with_balances of b = record { lots_of = b.lots_of; lots_used = b.lots_used; all_orders = b.all_orders; all_entries = b.all_entries; all_parts = b.all_parts; recipes = b.recipes; totals = b.totals; stocks = b.stocks; balances = of }
 
 -- opened memory keeps nothing
 abbrev pub OpensEmpty : Type 0
 OpensEmpty = (l : Limits) (s : State) → Good l → Roomy l s → Stands l (opened l s) nothing_kept
 
--- LOTS. While fewer lots are in use than the limit, a lot comes at the end of its item's list; else it is refused.
+-- LOTS. While fewer lots are in use than the limit, a lot comes at the end of its item's list, in a cell; else it is refused.
 abbrev pub AddsLot : Type 0
 AddsLot =
     (l : Limits) (s : State) (b : Kept) (x : Lot) → Good l → Stands l s b → x.item < l.items → b.lots_used < l.lots →
-    (c : ℕ) × (c < l.lots) × (add_lot l x s ≡ after (Ok c) (lot_placed l c x s)) × Stands l (lot_placed l c x s) (with_lots x.item (b.lots_of x.item ++ x ∷ []) (b.lots_used + 1) b)
+    (c : ℕ) × (c < l.lots) × (add_lot l x s ≡ after (Ok c) (lot_placed l c x s)) × (lot_record l c (lot_placed l c x s) ≡ x) × Stands l (lot_placed l c x s) (with_lots x.item (b.lots_of x.item ++ x ∷ []) (b.lots_used + 1) b)
 
 abbrev pub RefusesLot : Type 0
 RefusesLot = (l : Limits) (s : State) (b : Kept) (x : Lot) → Good l → Stands l s b → x.item < l.items → b.lots_used ≡ l.lots → add_lot l x s ≡ after (Err Full) s
@@ -143,6 +151,22 @@ AddsRecipe =
 abbrev pub PutsTotal : Type 0
 PutsTotal = (l : Limits) (s : State) (b : Kept) (t : Total) (v : ℕ) → Good l → Stands l s b → Stands l (state (put_total t v s.wide) s.narrow) (with_total t v b)
 
+-- SUMS. What an item's sums are once a lot is counted, and an account's once an entry is posted
+abbrev pub stock_with : Lot → ℕ → Stock → Stock
+stock_with x i a = cond (x.item == i) (more_stock a x.pieces x.cost) a
+
+abbrev pub balance_with : Entry → ℕ → Balance → Balance
+balance_with x a b = record { left = cond (x.left == a) (sum b.left x.amount) b.left; right = cond (x.right == a) (sum b.right x.amount) b.right }
+
+abbrev pub CountsIn : Type 0
+CountsIn =
+    (l : Limits) (s : State) (b : Kept) (x : Lot) → Good l → Stands l s b → x.item < l.items → Stands l (state (lot_counted l x s.wide) s.narrow) (with_stocks (λ i. stock_with x i (b.stocks i)) b)
+
+abbrev pub Posts : Type 0
+Posts =
+    (l : Limits) (s : State) (b : Kept) (x : Entry) → Good l → Stands l s b → x.left < 16 → x.right < 16 →
+    Stands l (state (post x s.wide) s.narrow) (with_balances (λ a. balance_with x a (b.balances a)) b)
+
 pub record StoreLaws : Type 0 where
   pub opens_empty : OpensEmpty
   pub adds_lot : AddsLot
@@ -165,3 +189,5 @@ pub record StoreLaws : Type 0 where
   pub adds_recipe : AddsRecipe
   pub refuses_recipe : RefusesRecipe
   pub puts_total : PutsTotal
+  pub counts_in : CountsIn
+  pub posts : Posts

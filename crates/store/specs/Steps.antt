@@ -5,12 +5,14 @@ use Rattle.layout.specs.declared.head.Counter.TheVariants.{Orders, Entries, Part
 use Rattle.layout.specs.declared.limits.Limits.{Limits}
 use Rattle.links.specs.Area.{header_of, tail_in, following_in, nth_in, inserted, removed}
 use Rattle.links.specs.declared.shape.Shape.{Shape}
-use Rattle.memory.specs.Books.{count_of, put_count, put_order, lot_record, put_lot, entry_record, put_entry, put_part, put_recipe}
+use Rattle.memory.specs.Books.{count_of, put_count, put_order, lot_record, put_lot, entry_record, put_entry, put_part, put_recipe, balance_of, put_balance, stock_of, put_stock}
 use Rattle.records.specs.State.{State, state}
+use Rattle.records.specs.declared.balance.Balance.{Balance}
 use Rattle.records.specs.declared.entry.Entry.{Entry}
 use Rattle.records.specs.declared.lot.Lot.{Lot}
 use Rattle.records.specs.declared.order.Order.{Order}
 use Rattle.records.specs.declared.part.Part.{Part}
+use Rattle.records.specs.declared.stock.Stock.{Stock}
 use Rattle.store.specs.declared.refusal.Refusal.{Refusal}
 use Rattle.store.specs.declared.refusal.Refusal.TheVariants.{NoSuchItem, NoSuchAccount, NoSuchOrder, NoLot, Full}
 
@@ -148,3 +150,34 @@ recipe_placed l i k n = put_recipe i (record { first = count_of Parts n + 1; par
 abbrev pub add_recipe : Limits → ℕ → ℕ → List ℕ → After ℕ (List ℕ)
 add_recipe l i k n =
     cond (nat_lt i l.items) (cond (nat_lt (count_of Parts n) l.parts) (after (Ok (count_of Parts n)) (recipe_placed l i k n)) (after (Err Full) n)) (after (Err NoSuchItem) n)
+
+-- SUMS. On any memory a sum stops at the largest word
+abbrev pub sum : ℕ → ℕ → ℕ
+sum a b = min (2 ^ 64 - 1) (a + b)
+
+-- an item's sums with q pieces more, which cost x
+abbrev pub more_stock : Stock → ℕ → ℕ → Stock
+more_stock a q x = record { pieces = sum a.pieces q; worth = sum a.worth x }
+
+-- a lot is counted for its item, if that is there
+unfoldable pub lot_counted : Limits → Lot → List ℕ → List ℕ
+lot_counted l x w = cond (nat_lt x.item l.items) (put_stock x.item (more_stock (stock_of x.item w) x.pieces x.cost) w) w
+
+abbrev pub count_in : Limits → ℕ → State → List ℕ
+count_in l c s = lot_counted l (lot_record l c s) s.wide
+
+-- an amount is posted on the left of an account, and on the right of one
+abbrev pub more_left : Balance → ℕ → Balance
+more_left b x = record { left = sum b.left x; right = b.right }
+
+abbrev pub more_right : Balance → ℕ → Balance
+more_right b x = record { left = b.left; right = sum b.right x }
+
+unfoldable pub left_posted : ℕ → ℕ → List ℕ → List ℕ
+left_posted a x w = put_balance a (more_left (balance_of a w) x) w
+
+unfoldable pub right_posted : ℕ → ℕ → List ℕ → List ℕ
+right_posted a x w = put_balance a (more_right (balance_of a w) x) w
+
+abbrev pub post : Entry → List ℕ → List ℕ
+post x w = right_posted x.right x.amount (left_posted x.left x.amount w)

@@ -7,18 +7,20 @@ use Rattle.layout.specs.declared.limits.Limits.{Limits}
 use Rattle.links.specs.Model.{row, uses, total}
 use Rattle.links.specs.Rows.{Rows}
 use Rattle.links.specs.declared.shape.Shape.{Shape}
-use Rattle.memory.specs.Books.{limits_in, count_of, total_of, order_record, lot_record, entry_record, part_record, recipe_of}
+use Rattle.memory.specs.Books.{limits_in, count_of, total_of, order_record, lot_record, entry_record, part_record, recipe_of, balance_of, stock_of}
 use Rattle.memory.specs.Slots.{Roomy}
 use Rattle.records.specs.Kinds.{order_kind, entry_kind, part_kind}
 use Rattle.records.specs.State.{State}
+use Rattle.records.specs.declared.balance.Balance.{Balance}
 use Rattle.records.specs.declared.entry.Entry.{Entry}
 use Rattle.records.specs.declared.lot.Lot.{Lot}
 use Rattle.records.specs.declared.order.Order.{Order}
 use Rattle.records.specs.declared.part.Part.{Part}
 use Rattle.records.specs.declared.recipe.Recipe.{Recipe}
+use Rattle.records.specs.declared.stock.Stock.{Stock}
 
 -- what is kept: the lots of each item from the oldest on and how many there are in all, all orders, entries and parts by number, where each
--- item's recipe lies, and the totals
+-- item's recipe lies, the totals, and the sums of each item and each account
 pub record Kept : Type 0 where
   pub lots_of : ℕ → List Lot
   pub lots_used : ℕ
@@ -27,6 +29,8 @@ pub record Kept : Type 0 where
   pub all_parts : List Part
   pub recipes : ℕ → Recipe
   pub totals : Total → ℕ
+  pub stocks : ℕ → Stock
+  pub balances : ℕ → Balance
 
 -- place by place, what is got is what stands in the list
 abbrev pub Table : {X : Type 0} → (ℕ → X) → X → List X → Type 0
@@ -93,9 +97,14 @@ pub record RecipesStand (l : Limits) (s : State) (ps : List Part) (of : ℕ → 
   pub each : Table (λ k. part_record l k s.narrow) part_kind.nothing ps
   pub first : (i : ℕ) → i < l.items → recipe_of i s.narrow ≡ of i
 
+pub record SumsStand (l : Limits) (s : State) (of_item : ℕ → Stock) (of_account : ℕ → Balance) : Type 0 where
+  pub stocks : (i : ℕ) → i < l.items → stock_of i s.wide ≡ of_item i
+  pub balances : (a : ℕ) → a < 16 → balance_of a s.wide ≡ of_account a
+
 pub record Stands (l : Limits) (s : State) (b : Kept) : Type 0 where
   pub frame : Frame l s b.totals
   pub lots : LotsStand l s b.lots_of b.lots_used
   pub orders : OrdersStand l s b.all_orders
   pub entries : EntriesStand l s b.all_entries
   pub recipes : RecipesStand l s b.all_parts b.recipes
+  pub sums : SumsStand l s b.stocks b.balances

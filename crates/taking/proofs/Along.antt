@@ -6,7 +6,7 @@ use Rattle.layout.specs.declared.limits.Limits.{Limits}
 use Rattle.links.specs.Area.{following_in, header_of}
 use Rattle.links.specs.Walk.{cells_on, cells_in}
 use Rattle.memory.specs.Books.{lot_record}
-use Rattle.questions.specs.Sums.{sum}
+use Rattle.store.specs.Steps.{sum}
 use Rattle.records.specs.State.{State}
 use Rattle.taking.specs.Parts.{part_of}
 use Rattle.taking.specs.Takes.{cost_on, cost_of}

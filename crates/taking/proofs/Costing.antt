@@ -9,7 +9,7 @@ use Rattle.layout.specs.declared.limits.Limits.{Limits}
 use Rattle.links.specs.Model.{first}
 use Rattle.memory.specs.Books.{lot_record}
 use Rattle.questions.specs.Listing.{lot_of}
-use Rattle.questions.specs.Sums.{sum}
+use Rattle.store.specs.Steps.{sum}
 use Rattle.records.specs.State.{State}
 use Rattle.records.specs.declared.lot.Lot.{Lot}
 use Rattle.store.proofs.LotLaws.{walks_lots}

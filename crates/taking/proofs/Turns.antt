@@ -4,7 +4,7 @@ use Rattle.std.proofs.lemmas.Bool.{eq-eqb, ne_eqb, cond-true, cond-false, cond_b
 use Rattle.layout.specs.declared.limits.Limits.{Limits}
 use Rattle.memory.specs.Books.{lot_record}
 use Rattle.questions.specs.Listing.{lot_of}
-use Rattle.questions.specs.Sums.{sum}
+use Rattle.store.specs.Steps.{sum}
 use Rattle.records.specs.State.{State}
 use Rattle.records.specs.declared.lot.Lot.{Lot}
 use Rattle.store.specs.Steps.{first_lot, lot_after}

@@ -34,7 +34,7 @@ KnownItems l (w ∷ ws) = (w.item < l.items) × KnownItems l ws
 -- other lots in place of those that are kept
 abbrev pub with_all_lots : (ℕ → List Lot) → ℕ → Kept → Kept
 with_all_lots of many b =
-    record { lots_of = of; lots_used = many; all_orders = b.all_orders; all_entries = b.all_entries; all_parts = b.all_parts; recipes = b.recipes; totals = b.totals }
+    record { lots_of = of; lots_used = many; all_orders = b.all_orders; all_entries = b.all_entries; all_parts = b.all_parts; recipes = b.recipes; totals = b.totals; stocks = b.stocks; balances = b.balances }
 
 -- memory that stands for what it stood for, but with the lots ls
 pub record LotsLeft (l : Limits) (s : State) (b : Kept) (ls : List firm.Lot) : Type 0 where

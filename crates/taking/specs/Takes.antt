@@ -5,7 +5,7 @@ use Rattle.firm.specs.Stock as firm
 use Rattle.layout.specs.declared.limits.Limits.{Limits}
 use Rattle.memory.specs.Books.{lot_record, put_lot}
 use Rattle.questions.specs.Listing.{lot_of}
-use Rattle.questions.specs.Sums.{sum}
+use Rattle.store.specs.Steps.{sum}
 use Rattle.records.specs.State.{State, state}
 use Rattle.records.specs.declared.lot.Lot.{Lot}
 use Rattle.store.specs.Steps.{one_more, first_lot, lot_after, lot_freed}

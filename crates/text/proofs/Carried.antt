@@ -1,33 +1,31 @@
 -- Every answer on memory of small words has numbers that its bytes can carry. Assumes nothing.
-use Rattle.std.proofs.Common.{◌≡◌, ℕ, ◌+◌, ◌*◌, ◌/◌, ◌%◌, ◌^◌, ◌<◌, true, cond, eqb, ltb, leb, List, [], ◌∷◌, ◌++◌, length, get_or, Ok, Err, Result, refl, arith}
+use Rattle.std.proofs.Common.{◌≡◌, ℕ, ◌+◌, ◌*◌, ◌^◌, ◌<◌, true, cond, ltb, leb, List, [], ◌∷◌, ◌++◌, length, get_or, Ok, Err, Result, refl, arith}
 use Rattle.std.proofs.lemmas.Bool.{cond_both, and_from, and_parts, lt-ltb}
 use Rattle.firm.specs.Stock as stock
 use Rattle.firm.specs.Calls.{Call, Answer, refused, number, two, lots, field, readable}
 use Rattle.firm.specs.Calls as calls
 use Rattle.firm.specs.Refusals.{some_pieces}
-use Rattle.layout.specs.Layout.{Good, lot_rows, entry_rows, order_at, lot_at, wide_lot_at}
+use Rattle.layout.specs.Layout.{Good, lot_rows, order_at, lot_at, wide_lot_at}
 use Rattle.layout.specs.declared.head.Counter.TheVariants.{Orders}
 use Rattle.layout.specs.declared.head.Total.TheVariants.{Documents}
 use Rattle.layout.specs.declared.limits.Limits.{Limits}
-use Rattle.memory.specs.Books.{count_of, total_of, order_record, lot_record, entry_record}
+use Rattle.memory.specs.Books.{count_of, total_of, order_record, lot_record, balance_of, stock_of}
 use Rattle.questions.specs.Listing.{lot_of, lots_step, lots_met}
-use Rattle.questions.specs.Sums.{stock_of, stock_step, no_stock, sides_of, sides_step, no_balance, sum}
 use Rattle.std.specs.List.{fold}
 use Rattle.links.specs.Walk.{cells_in}
 use Rattle.questions.proofs.Listed.{met_few}
 use Rattle.records.specs.Kind.{fits, lies, word}
 use Rattle.records.specs.Kinds.{lot_kind, order_kind}
 use Rattle.records.specs.State.{State}
-use Rattle.records.specs.declared.balance.Balance.{Balance}
 use Rattle.records.specs.declared.lot.Lot.{Lot}
 use Rattle.records.specs.declared.order.Order.{Order}
-use Rattle.records.specs.declared.stock.Stock.{Stock}
 use Rattle.rules.specs.Buying.{new_order, buys_fields, added}
 use Rattle.rules.specs.Checks.{in_time}
 use Rattle.rules.specs.Outcome.{Outcome, refuse}
 use Rattle.rules.specs.Receiving.{comes_fits, new_lot, placed, stored}
 use Rattle.session.specs.Calling.{done}
 use Rattle.session.specs.Means.{Sized}
+use Rattle.session.proofs.Small.{balance_small, stock_small}
 use Rattle.store.specs.Steps.{After, add_order, add_lot, order_placed}
 use Rattle.store.specs.Steps as steps
 use Rattle.store.specs.declared.refusal.Refusal.{Refusal}
@@ -47,26 +45,6 @@ two_carried a b h k = and_from (field a) (field b) (small a h) (small b k)
 walk_keeps : {A : Type 0} (P : A → Type 0) (f : A → ℕ → A) → ((a : A) (c : ℕ) → P a → P (f a c)) → (cs : List ℕ) (a : A) → P a → P (fold f a cs)
 walk_keeps P f step [] a p = p
 walk_keeps P f step (c ∷ cs) a p = walk_keeps P f step cs (f a c) (step a c p)
-
-abbrev SmallStock : Stock → Type 0
-SmallStock a = (a.pieces < 2 ^ 64) × (a.worth < 2 ^ 64)
-
-stock_small : (l : Limits) (i : ℕ) (s : State) → SmallStock (stock_of l i s)
-unfolding stock_of
-stock_small l i s =
-    walk_keeps SmallStock (stock_step l s) (λ a c p. (omega arith, omega arith)) (cells_in (lot_rows l) s.narrow i) no_stock
-    (omega arith, omega arith)
-
-abbrev SmallSides : Balance → Type 0
-SmallSides b = (b.left < 2 ^ 64) × (b.right < 2 ^ 64)
-
-sides_small : (l : Limits) (a : ℕ) (s : State) → SmallSides (sides_of l a s)
-unfolding sides_of
-sides_small l a s =
-    walk_keeps SmallSides (sides_step l s)
-    (λ b c p. cond_both (eqb (c % 2) 0) (record { left = sum b.left (entry_record l (c / 2) s).amount; right = b.right }) (record { left = b.left; right = sum b.right (entry_record l (c / 2) s).amount }) SmallSides
-    (λ _. (omega arith, p.1)) (λ _. (p.0, omega arith)))
-    (cells_in (entry_rows l) s.narrow a) no_balance (omega arith, omega arith)
 
 each_push : (xs : List stock.Lot) (x : stock.Lot) → each lot_fits xs ≡ true → lot_fits x ≡ true → each lot_fits (xs ++ (x ∷ [])) ≡ true
 unfolding each
@@ -180,9 +158,9 @@ module _ (l : Limits) (s : State) (z : Sized l s) where
   carried g (calls.makes i q) h = refl
   carried g (calls.counted i q) h = refl
   carried g (calls.stock_of i) h =
-      cond_both (ltb i l.items) (two (stock_of l i s).pieces (stock_of l i s).worth) (refused 2 0) Carried (λ _. two_carried _ _ (stock_small l i s).0 (stock_small l i s).1) (λ _. refl)
+      cond_both (ltb i l.items) (two (stock_of i s.wide).pieces (stock_of i s.wide).worth) (refused 2 0) Carried (λ _. two_carried _ _ (stock_small l i s z).0 (stock_small l i s z).1) (λ _. refl)
   carried g (calls.account a) h =
-      cond_both (ltb a 9) (two (sides_of l a s).left (sides_of l a s).right) (refused 2 0) Carried (λ _. two_carried _ _ (sides_small l a s).0 (sides_small l a s).1) (λ _. refl)
+      cond_both (ltb a 9) (two (balance_of a s.wide).left (balance_of a s.wide).right) (refused 2 0) Carried (λ _. two_carried _ _ (balance_small l a s z).0 (balance_small l a s z).1) (λ _. refl)
   carried g (calls.order k) h =
       cond_both (ltb k (count_of Orders s.narrow)) (two (order_record l k s.narrow).moved (order_record l k s.narrow).billed) (refused 4 0) Carried (λ _. two_carried _ _ (order_small k).0 (order_small k).1) (λ _. refl)
   carried g (calls.lots_of i) h = cond_both (ltb i l.items) (lots (lots_met l i s)) (refused 2 0) Carried (λ _. lots_carried g i) (λ _. refl)

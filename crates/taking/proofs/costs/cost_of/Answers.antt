@@ -3,7 +3,7 @@ use Rattle.std.proofs.lemmas.Bool.{lt-ltb}
 use Rattle.layout.specs.declared.limits.Limits.{Limits}
 use Rattle.links.specs.Walk.{cells_left, cells_in}
 use Rattle.memory.specs.Lent.{seen}
-use Rattle.questions.specs.Sums.{sum}
+use Rattle.store.specs.Steps.{sum}
 use Rattle.records.specs.State.{State}
 use Rattle.records.specs.declared.lot.Lot.{Lot}
 use Rattle.taking.specs.Parts.{part_of}
