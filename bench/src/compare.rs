@@ -11,11 +11,6 @@ use bench::rows;
 
 const LISTS: u64 = 60;
 
-// What plain Rust can do, which may be more than the engine can.
-fn plain_stage(number: u8) -> bool {
-    stage(number) || matches!(number, 1 | 3)
-}
-
 // The engine, and its memory as it was before a call.
 struct Watched {
     engine: Engine,
@@ -52,13 +47,9 @@ fn check_plain(plain: &mut Plain, row: &[u8], wanted: &[u8], answer: &mut [u8]) 
     if got == wanted { Ok(()) } else { Err(format!("plain Rust answers {got:?}")) }
 }
 
-// One list of calls, with the engine or without it; says how many were refused.
-fn compare_list(
-    seed: u64,
-    limits: &Limits,
-    stage: fn(u8) -> bool,
-    mut engine: Option<Watched>,
-) -> Result<usize, String> {
+// One list of calls; says how many were refused.
+fn compare_list(seed: u64, limits: &Limits) -> Result<usize, String> {
+    let mut engine = Watched::new(limits);
     let mut chance = Chance::new(seed);
     let mut model = Model::new(limits.clone(), stage);
     let mut plain = Plain::new(limits.clone(), stage);
@@ -70,9 +61,7 @@ fn compare_list(
         let bytes = answer_bytes(&wanted);
         let refused = matches!(wanted, Answer::Refused(..));
         let place = |e| format!("seed {seed}, call {k} {row:?}, wanted {wanted:?}: {e}");
-        if let Some(engine) = &mut engine {
-            engine.check(&row, &bytes, refused).map_err(place)?;
-        }
+        engine.check(&row, &bytes, refused).map_err(place)?;
         check_plain(&mut plain, &row, &bytes, &mut answer).map_err(place)?;
         all_refused += usize::from(refused);
     }
@@ -92,16 +81,14 @@ pub fn compare() -> Result<(), String> {
         limits(32, 64, 128, 32, 256),
         limits(40, 2000, 2500, 60, 3000),
     ];
-    let (mut all, mut refused, mut refused_plainly) = (0, 0, 0);
+    let (mut all, mut refused) = (0, 0);
     for seed in 1..=LISTS {
         for shape in &shapes {
-            refused += compare_list(seed, shape, stage, Some(Watched::new(shape)))?;
-            refused_plainly += compare_list(seed, shape, plain_stage, None)?;
+            refused += compare_list(seed, shape)?;
             all += many(shape);
         }
     }
     let lists = LISTS as usize * shapes.len();
     println!("compare: {all} calls in {lists} lists answered alike, {refused} of them refused");
-    println!("compare: {all} more by plain Rust alone, which sells too, {refused_plainly} of them refused");
     Ok(())
 }

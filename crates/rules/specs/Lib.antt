@@ -2,7 +2,8 @@ pub mod Outcome
 pub mod Refused
 pub mod Checks
 pub mod Totals
-pub mod Buying
+pub mod Ordering
 pub mod Entering
 pub mod Receiving
+pub mod Going
 pub mod Asking

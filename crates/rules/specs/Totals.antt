@@ -1,7 +1,10 @@
--- The totals in the head: what is added to one of them. On any memory a total stops at the largest word. Definitions only: nothing is assumed.
+-- The totals in the head: what is added to one of them, or taken from it. On any memory a total stops at the largest word, and at 0. Definitions only: nothing is assumed.
 use Rattle.std.specs.Prelude.{ℕ, ◌+◌, ◌-◌, ◌^◌, min, List}
 use Rattle.layout.specs.declared.head.Total.{Total}
 use Rattle.memory.specs.Books.{total_of, put_total}
 
 unfoldable pub raised : Total → ℕ → List ℕ → List ℕ
 raised t x w = put_total t (min (2 ^ 64 - 1) (total_of t w + x)) w
+
+unfoldable pub lowered : Total → ℕ → List ℕ → List ℕ
+lowered t x w = put_total t (total_of t w - x) w

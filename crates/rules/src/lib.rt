@@ -5,15 +5,17 @@
 #![tactic(auto)]
 
 mod asking;
-mod buying;
 mod checks;
 mod entering;
+mod going;
+mod ordering;
 mod receiving;
 mod refused;
 mod totals;
 
 pub use asking::{account, order, stock_of};
-pub use buying::buys;
 pub use checks::known_item;
+pub use going::goes;
+pub use ordering::{buys, sells};
 pub use receiving::comes;
 pub use refused::Refused;

@@ -2,7 +2,7 @@
 
 ghost use Rattle.std.specs.Prelude.{◌≡◌};
 ghost use Rattle.memory.specs.Lent.{WideAlone};
-ghost use Rattle.rules.specs.Totals.{raised};
+ghost use Rattle.rules.specs.Totals.{raised, lowered};
 
 use layout::Total;
 use memory::Memory;
@@ -15,4 +15,14 @@ pub fn raise(memory: &mut Memory<'_>, which: Total, by: u64)
 {
     let total = memory.view().total(which);
     memory.put_total(which, total.saturating_add(by));
+}
+
+/// Takes from a total.
+#[tactic(auto, unfolding(crate::specs::Totals::lowered))]
+pub fn lower(memory: &mut Memory<'_>, which: Total, by: u64)
+    ensures wide { memory.new.wide.now ≡ lowered which by memory.old.wide.now }
+    ensures alone { WideAlone memory.old memory.new }
+{
+    let total = memory.view().total(which);
+    memory.put_total(which, total.saturating_sub(by));
 }

@@ -10,7 +10,6 @@ use Rattle.firm.specs.Calls as calls
 use Rattle.firm.specs.Changes.{changed}
 use Rattle.firm.specs.Refusals.{good_fields, good_call, turned_by, fits, garbled_at, place}
 use Rattle.firm.specs.Answers.{told}
-use Rattle.firm.specs.Promise.{thin}
 use Rattle.firm.specs.Statements.{Reached}
 use Rattle.firm.proofs.Bounds.{reached_fits}
 use Rattle.firm.proofs.Picks.{pick_true, pick_false}
@@ -31,10 +30,11 @@ use Rattle.rules.specs.Outcome.{outcome, refuse}
 use Rattle.store.specs.View.{Kept}
 use Rattle.session.specs.Calling.{lots_told}
 use Rattle.session.specs.Means.{Means, order_of, stock_sums, account_sums, limits_of}
+use Rattle.session.specs.Stage.{in_stage}
 use Rattle.session.proofs.Counting.{lots_along, lots_there}
 use Rattle.session.proofs.Turning.{Done, refuses, goes}
 
-module _ (l : Limits) (s : State) (f : Firm) (good : Good (limits_of l)) (cans : l.calls_can ≡ thin) (r : Reached l f) (h : Means (limits_of l) s f) where
+module _ (l : Limits) (s : State) (f : Firm) (good : Good (limits_of l)) (cans : l.calls_can ≡ in_stage) (r : Reached l f) (h : Means (limits_of l) s f) where
   abbrev m : Kept
   m = h.kept
 
@@ -181,6 +181,6 @@ module _ (l : Limits) (s : State) (f : Firm) (good : Good (limits_of l)) (cans :
   unfolding call_number good_fields turned_by place garbled_at
   garbled_done n = refuses l s f (calls.garbled n) 1 n (turned_known l f (calls.garbled n) 1 refl refl (omega arith)) (omega arith) refl h
 
-  pub other_done : (c : Call) → (eqb (call_number c) 255 || thin (call_number c)) ≡ false → place c 2 ≡ 0 → Done l s f c (refuse 2 0 s)
+  pub other_done : (c : Call) → (eqb (call_number c) 255 || in_stage (call_number c)) ≡ false → place c 2 ≡ 0 → Done l s f c (refuse 2 0 s)
   other_done c e at =
       refuses l s f c 2 0 (turned_bad l f c (ap (λ (g : ℕ → Bool). (eqb (call_number c) 255 || g (call_number c)) && good_fields l c) cans ∙ ap (λ (b : Bool). b && good_fields l c) e)) (omega arith) at h

@@ -1,12 +1,15 @@
 -- What lots and entries come to: sums of one item or account, of all, and those that are kept. Assumes nothing.
-use Rattle.std.proofs.Common.{◌≡◌, ℕ, ◌+◌, ◌*◌, ◌^◌, ◌<◌, ◌≤◌, Bool, true, false, cond, eqb, List, [], ◌∷◌, ◌++◌, map, length, sym, refl, ap, ◌∙◌, ap₂, append_assoc, append-nil, arith}
-use Rattle.std.proofs.lemmas.Bool.{cond_both}
-use Rattle.firm.specs.Stock.{pick, on_hand, worth, all_worth, of_item}
+use Rattle.std.proofs.Common.{◌≡◌, ℕ, ◌+◌, ◌-◌, ◌*◌, ◌^◌, ◌<◌, ◌≤◌, Bool, true, false, cond, eqb, ◌≢◌, ◌⊎◌, List, [], ◌∷◌, ◌++◌, map, length, sym, refl, ap, ◌∙◌, subst, ap₂, inl, inr, append_assoc, append-nil, arith}
+use Rattle.std.proofs.lemmas.Bool.{cond_both, cond-true, cond-false, cases_eq, eq-eqb, ne_eqb}
+use Rattle.firm.specs.Stock.{pick, take, on_hand, worth, all_worth, of_item}
 use Rattle.firm.specs.Stock as stock
 use Rattle.firm.specs.Ledger.{left_side, right_side, sum_of}
 use Rattle.firm.specs.Ledger as ledger
 use Rattle.firm.specs.Firm.{Firm}
 use Rattle.firm.specs.Statements.{all_pieces}
+use Rattle.firm.proofs.Bounds.{take_lacking}
+use Rattle.firm.proofs.Cases.{take_cases}
+use Rattle.firm.proofs.Taking.{take_keeps}
 use Rattle.firm.proofs.Ledger.{left_append, right_append, on_hand_push, item_worth_push}
 use Rattle.firm.proofs.Picks.{pick-both}
 use Rattle.layout.specs.Layout.{Good, lot_rows, lot_at}
@@ -24,8 +27,9 @@ use Rattle.records.specs.declared.balance.Balance.{Balance}
 use Rattle.records.specs.declared.entry.Entry.{Entry}
 use Rattle.records.specs.declared.lot.Lot.{Lot}
 use Rattle.records.specs.declared.stock.Stock.{Stock}
-use Rattle.store.specs.Laws.{stock_with, balance_with}
-use Rattle.store.specs.Steps.{sum, more_stock}
+use Rattle.store.specs.Laws.{stock_with, stock_without, balance_with}
+use Rattle.store.specs.Steps.{sum, more_stock, less_stock}
+use Rattle.taking.proofs.OneItem.{one_item}
 use Rattle.session.specs.Means.{Means, entry_of, stock_sums, account_sums, Sized}
 
 -- ONE OF ALL: what an item's lots cost is no more than all cost, and so with a side of an account
@@ -55,6 +59,15 @@ on_hand_is [] i = refl
 on_hand_is (x ∷ ls) i = at (eqb x.item i) (on_hand_is ls i)
   where
     at : (b : Bool) → on_hand ls i ≡ all_pieces (of_item ls i) → pick b x.pieces 0 + on_hand ls i ≡ all_pieces (pick b (x ∷ of_item ls i) (of_item ls i))
+    at true e = omega (arith, e)
+    at false e = omega (arith, e)
+
+worth_is : (ls : List stock.Lot) (i : ℕ) → worth ls i ≡ all_worth (of_item ls i)
+unfolding worth all_worth of_item
+worth_is [] i = refl
+worth_is (x ∷ ls) i = at (eqb x.item i) (worth_is ls i)
+  where
+    at : (b : Bool) → worth ls i ≡ all_worth (of_item ls i) → pick b x.cost 0 + worth ls i ≡ all_worth (pick b (x ∷ of_item ls i) (of_item ls i))
     at true e = omega (arith, e)
     at false e = omega (arith, e)
 
@@ -100,6 +113,48 @@ stock_more ls x i a is hp hw =
     at : (t : Bool) → cond t (more_stock (stock_sums ls i) x.pieces x.cost) (stock_sums ls i) ≡ record { pieces = on_hand ls i + pick t x.pieces 0; worth = worth ls i + pick t x.cost 0 }
     at true = ap₂ (λ (p w : ℕ). record { pieces = p; worth = w }) (omega arith) (omega arith)
     at false = ap₂ (λ (p w : ℕ). record { pieces = p; worth = w }) (omega arith) (omega arith)
+
+-- WITH PIECES FEWER, which are there, they are the meaning's of what taking leaves
+module _ (ls : List stock.Lot) (i q : ℕ) where
+  abbrev taken : stock.Taken
+  taken = take ls i q
+
+  pieces_left : q ≤ on_hand ls i → on_hand ls i - q ≡ on_hand taken.left i
+  pieces_left enough = omega (arith, (take_keeps ls i q).2, (take_keeps ls i q).3, take_lacking ls i q)
+
+  worth_left : worth ls i - taken.cost ≡ worth taken.left i
+  worth_left =
+      let own : stock.Taken = take (of_item ls i) i q in
+      omega (
+        arith,
+        worth_is ls i,
+        worth_is taken.left i,
+        ap all_worth (one_item ls i q).left,
+        (one_item ls i q).cost,
+        (take_keeps (of_item ls i) i q).0,
+      )
+
+  worth_other : (j : ℕ) → j ≢ i → worth ls j ≡ worth taken.left j
+  worth_other j ne = worth_is ls j ∙ ap all_worth (sym ((one_item ls i q).others j ne)) ∙ sym (worth_is taken.left j)
+
+  pub stock_less : (j : ℕ) (a : Stock) → a ≡ stock_sums ls j → q ≤ on_hand ls i → stock_without i q taken.cost j a ≡ stock_sums taken.left j
+  stock_less j a is enough = ap (stock_without i q taken.cost j) is ∙ at (cases_eq i j)
+    where
+      at : (i ≡ j) ⊎ (i ≡ j → ⊥) → stock_without i q taken.cost j (stock_sums ls j) ≡ stock_sums taken.left j
+      at (inl e) =
+          subst (λ (n : ℕ). stock_without i q taken.cost n (stock_sums ls n) ≡ stock_sums taken.left n) e
+          (cond-true (eqb i i) (less_stock (stock_sums ls i) q taken.cost) (stock_sums ls i) (eq-eqb i i refl)
+          ∙ ap₂ (λ (p w : ℕ). record { pieces = p; worth = w }) (pieces_left enough) worth_left)
+      at (inr ne) =
+          cond-false (eqb i j) (less_stock (stock_sums ls j) q taken.cost) (stock_sums ls j) (ne_eqb i j ne)
+          ∙ ap₂ (λ (p w : ℕ). record { pieces = p; worth = w }) (sym ((take_keeps ls i q).4 j (λ e. ne (sym e)))) (worth_other j (λ e. ne (sym e)))
+
+-- and there are no more lots than before
+pub take_few : (ls : List stock.Lot) (i q : ℕ) → length (take ls i q).left ≤ length ls
+unfolding take
+take_few [] i q = omega arith
+take_few (x ∷ ls) i q =
+    take_cases x ls i q (λ t. length t.left ≤ length (x ∷ ls)) (λ _. omega arith) (λ _ _. omega (arith, take_few ls i q)) (λ _ _ _. omega (arith, take_few ls i (q - x.pieces))) (λ _ _ _. omega arith)
 
 pub balance_more : (es : List ledger.Entry) (x : Entry) (a : ℕ) (b : Balance) → b ≡ account_sums es a → sum_of es + x.amount < 2 ^ 64 → balance_with x a b ≡ account_sums (es ++ (entry_of x ∷ [])) a
 unfolding left_side right_side

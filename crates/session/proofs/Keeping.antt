@@ -1,5 +1,5 @@
 -- From one call to every list of calls: what the promises ask of the keeper. Assumes nothing.
-use Rattle.std.proofs.Common.{◌≡◌, ℕ, suc, ◌+◌, ◌*◌, ◌^◌, ◌<◌, ◌≤◌, true, ltb, List, [], ◌∷◌, ◌++◌, length, take, drop, sym, refl, ap, ◌∙◌, subst, ap₂, arith, length-append}
+use Rattle.std.proofs.Common.{◌≡◌, ℕ, suc, ◌+◌, ◌*◌, ◌^◌, ◌<◌, ◌≤◌, true, false, ltb, List, [], ◌∷◌, ◌++◌, length, take, drop, sym, refl, ap, ◌∙◌, subst, ap₂, arith, length-append}
 use Rattle.std.proofs.lemmas.List.{take_at, drop_at, get_or_append_left, length-replicate}
 use Rattle.std.proofs.lemmas.Bool.{and_parts, and_from, lt-ltb}
 use Rattle.firm.specs.Firm.{Firm, new_firm}
@@ -8,7 +8,6 @@ use Rattle.firm.specs.Calls as calls
 use Rattle.firm.specs.Refusals.{turned, place}
 use Rattle.firm.specs.Answers.{after, answer, ran}
 use Rattle.firm.specs.Promise.{GoodLimits, Memory, all_below}
-use Rattle.firm.specs.Promise.{thin}
 use Rattle.firm.specs.Keeping.{AllSteps, Stays, KeepsSound, Within}
 use Rattle.firm.specs.Statements.{Reached}
 use Rattle.firm.specs.Ledger.{left_side, right_side, sum_of}
@@ -24,8 +23,10 @@ use Rattle.store.proofs.Opening.{opens_empty}
 use Rattle.session.specs.Calling.{done}
 use Rattle.session.specs.Keeper.{memory_of, state_of, blank, keeper, Standing, for_stage, Sound}
 use Rattle.session.specs.Means.{limits_of, Below, Means}
+use Rattle.session.specs.Stage.{in_stage}
 use Rattle.session.proofs.Asking.{order_done, stock_done, lots_done, account_done, garbled_done, other_done}
-use Rattle.session.proofs.Buying.{buys_done}
+use Rattle.session.proofs.Ordering.{ordered_done}
+use Rattle.session.proofs.Going.{goes_done}
 use Rattle.session.proofs.Receiving.{comes_done}
 use Rattle.session.proofs.Small.{sized_opened}
 use Rattle.session.proofs.Turning.{Done}
@@ -34,13 +35,13 @@ pub good_of : (l : Limits) → GoodLimits l → Good (limits_of l)
 good_of l g = record { items = g.0; orders = g.1; lots = g.2; parts = g.3; entries = g.4 }
 
 -- ONE CALL on memory that means a firm
-module _ (l : Limits) (s : State) (f : Firm) (good : Good (limits_of l)) (cans : l.calls_can ≡ thin) (r : Reached l f) (h : Means (limits_of l) s f) where
+module _ (l : Limits) (s : State) (f : Firm) (good : Good (limits_of l)) (cans : l.calls_can ≡ in_stage) (r : Reached l f) (h : Means (limits_of l) s f) where
   pub done_means : (c : Call) → Done l s f c (done (limits_of l) c s)
   unfolding call_number place
-  done_means (calls.buys i q p) = buys_done l s f i q p good cans r h
-  done_means (calls.sells i q p) = other_done l s f good cans r h (calls.sells i q p) refl refl
+  done_means (calls.buys i q p) = ordered_done l s f false i q p good cans r h
+  done_means (calls.sells i q p) = ordered_done l s f true i q p good cans r h
   done_means (calls.comes o q) = comes_done l s f o q good cans r h
-  done_means (calls.goes o q) = other_done l s f good cans r h (calls.goes o q) refl refl
+  done_means (calls.goes o q) = goes_done l s f o q in_stage refl good cans r h
   done_means (calls.billed_by o q x) = other_done l s f good cans r h (calls.billed_by o q x) refl refl
   done_means (calls.bills o q) = other_done l s f good cans r h (calls.bills o q) refl refl
   done_means (calls.pays_out x) = other_done l s f good cans r h (calls.pays_out x) refl refl
@@ -114,7 +115,7 @@ module _ (l : Limits) (m : Memory) (f : Firm) (g : GoodLimits l) (h : Standing l
   next_stays : 0 < turned l f c → keeper.next m c ≡ m
   next_stays t = on_next ∙ ap memory_of (one.stays t) ∙ sym h.words
 
-opens_standing : (l : Limits) → GoodLimits l → l.calls_can ≡ thin → Standing l (keeper.opened l) new_firm
+opens_standing : (l : Limits) → GoodLimits l → l.calls_can ≡ in_stage → Standing l (keeper.opened l) new_firm
 unfolding ran
 opens_standing l g cans =
     record {
@@ -126,7 +127,7 @@ opens_standing l g cans =
     }
 
 -- WHAT IS OWED
-pub all_steps : AllSteps thin keeper Standing
+pub all_steps : AllSteps in_stage keeper Standing
 all_steps l g cans = record { opens = opens_standing l g cans; answering = λ m f c _ h. on_says l m f g h c; going_on = λ m f c _ h. next_stands l m f g h c }
 
 pub stays : Stays keeper Standing

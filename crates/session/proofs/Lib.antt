@@ -3,10 +3,12 @@ pub mod Saying
 pub mod Doing
 pub mod Steps
 pub mod Turning
-pub mod Buying
+pub mod Ordering
 pub mod Counting
 pub mod Entering
 pub mod Receiving
+pub mod Going
+pub mod Telling
 pub mod Asking
 pub mod Keeping
 pub mod Called

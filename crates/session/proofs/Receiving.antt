@@ -12,7 +12,6 @@ use Rattle.firm.specs.Calls as calls
 use Rattle.firm.specs.Changes.{changed}
 use Rattle.firm.specs.Refusals.{some_pieces, good_fields, good_call, turned_by, fits, place}
 use Rattle.firm.specs.Answers.{told}
-use Rattle.firm.specs.Promise.{thin}
 use Rattle.firm.specs.Statements.{Reached}
 use Rattle.firm.specs.Laws.{Known}
 use Rattle.firm.proofs.Bounds.{reached_parts}
@@ -43,13 +42,14 @@ use Rattle.store.proofs.LotLaws.{adds_lot, refuses_lot}
 use Rattle.store.proofs.OrderLaws.{sets_order}
 use Rattle.store.proofs.SumLaws.{counts_in}
 use Rattle.session.specs.Means.{Means, order_of, entry_of, limits_of, Sized}
+use Rattle.session.specs.Stage.{in_stage}
 use Rattle.session.proofs.Counting.{worth_most, on_hand_small, stock_more}
 use Rattle.session.proofs.Entering.{Entered, enters}
 use Rattle.session.proofs.Steps.{of_item_push, raised_stands}
-use Rattle.session.proofs.Small.{sized_put_order, sized_lot_placed, sized_lot_counted, sized_raised, order_billed_small}
+use Rattle.session.proofs.Small.{sized_put_order, sized_lot_placed, sized_lot_counted, sized_raised, order_small}
 use Rattle.session.proofs.Turning.{Done, refuses, goes}
 
-module _ (l : Limits) (s : State) (f : Firm) (k q : ℕ) (good : Good (limits_of l)) (cans : l.calls_can ≡ thin) (r : Reached l f) (h : Means (limits_of l) s f) where
+module _ (l : Limits) (s : State) (f : Firm) (k q : ℕ) (good : Good (limits_of l)) (cans : l.calls_can ≡ in_stage) (r : Reached l f) (h : Means (limits_of l) s f) where
   abbrev c : Call
   c = calls.comes k q
 
@@ -242,7 +242,7 @@ module _ (l : Limits) (s : State) (f : Firm) (k q : ℕ) (good : Good (limits_of
               pieces = omega (arith, known.pieces);
               price = omega (arith, known.price);
               moved = omega (arith, enough, known.pieces);
-              billed = order_billed_small (limits_of l) k s h.sized;
+              billed = (order_small (limits_of l) k s h.sized).billed;
             }) sized₁)
 
         -- the entry

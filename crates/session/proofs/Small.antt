@@ -1,7 +1,7 @@
 -- Words stay as many and as small: what each step leaves has as many words as were there, each below its bound. Assumes nothing.
-use Rattle.std.proofs.Common.{◌≡◌, ℕ, zero, suc, ◌+◌, ◌-◌, ◌^◌, ◌<◌, ◌≤◌, cond, eqb, ltb, List, [], ◌∷◌, length, get_or, drop, set, replicate, sym, refl, ap, ◌∙◌, subst, inl, inr, ⊎_elim, arith, length-append, length-drop, length-set, get_or-set_other, get_or-set_same}
+use Rattle.std.proofs.Common.{◌≡◌, ℕ, zero, suc, ◌+◌, ◌-◌, ◌*◌, ◌^◌, ◌<◌, ◌≤◌, min, cond, eqb, ltb, leb, List, [], ◌∷◌, length, get_or, drop, set, replicate, sym, refl, ap, ◌∙◌, subst, inl, inr, ⊎_elim, arith, length-append, length-drop, length-set, get_or-set_other, get_or-set_same}
 use Rattle.std.proofs.lemmas.List.{set_past, get_or_past, get_or_append_left, get_or-append_right, get_or-drop, get_or-replicate, length-replicate}
-use Rattle.std.proofs.lemmas.Bool.{cond_both, cases_lt, cases_eq, and_parts, leb-true}
+use Rattle.std.proofs.lemmas.Bool.{cond_both, cases_lt, cases_eq, and_parts, leb-true, leb-false}
 use Rattle.layout.specs.declared.limits.Limits.{Limits}
 use Rattle.layout.specs.declared.head.Total.{Total}
 use Rattle.layout.specs.declared.head.Counter.{Counter}
@@ -9,7 +9,7 @@ use Rattle.layout.specs.declared.head.Counter.TheVariants.{Orders, Entries, Lots
 use Rattle.layout.specs.Layout.{Good, lot_rows, order_rows, entry_rows, wide_need, narrow_need, count_at, total_at, order_at, lot_at, wide_lot_at, entry_at, wide_entry_at, balance_at, stock_at}
 use Rattle.links.specs.Area.{place_at, tail_at, header_of, after_in, tail_in, inserted, removed, emptied, chained, filled}
 use Rattle.links.specs.declared.shape.Shape.{Shape}
-use Rattle.memory.specs.Books.{count_of, put_count, put_total, order_record, put_order, put_lot, put_entry, balance_of, put_balance, stock_of, put_stock}
+use Rattle.memory.specs.Books.{count_of, put_count, total_of, put_total, order_record, put_order, lot_record, put_lot, put_entry, balance_of, put_balance, stock_of, put_stock}
 use Rattle.memory.specs.Opened.{zeroed, with_limits, with_rows, opened}
 use Rattle.records.specs.Kind.{fits, word, over, Kind, lies, write, read_wide, write_wide}
 use Rattle.records.specs.Kinds.{lot_kind, order_kind, entry_kind, balance_kind, stock_kind}
@@ -20,9 +20,14 @@ use Rattle.records.specs.declared.lot.Lot.{Lot}
 use Rattle.records.specs.declared.order.Order.{Order}
 use Rattle.records.specs.declared.stock.Stock.{Stock}
 use Rattle.records.proofs.Over.{length_over, over_same, over_other}
-use Rattle.rules.specs.Totals.{raised}
+use Rattle.rules.specs.Totals.{raised, lowered}
 use Rattle.session.specs.Means.{Below, Words, Sized}
-use Rattle.store.specs.Steps.{pushed, moved_in, lot_placed, order_placed, left_cell, right_cell, entry_linked, entry_placed, more_stock, lot_counted, more_left, more_right, left_posted, right_posted, post}
+use Rattle.store.specs.Steps.{free_header, pushed, moved_in, moved_out, lot_placed, lot_freed, order_placed, left_cell, right_cell, entry_linked, entry_placed, more_stock, lot_counted, less_stock, counted_out, more_left, more_right, left_posted, right_posted, post}
+use Rattle.taking.specs.Parts.{share, part_of, rest_of}
+use Rattle.taking.specs.Takes.{take_all}
+use Rattle.taking.specs.declared.wants.Want.{Want}
+use Rattle.taking.proofs.StepKeeping.{StepsKeep, slices_keep, first_inside}
+use Rattle.std.proofs.Math.Nat.{div-le_self}
 
 below_set : (b : ℕ) (xs : List ℕ) (i v : ℕ) → v < b → Below b xs → Below b (set xs i v)
 below_set b xs i v lt h j =
@@ -127,12 +132,19 @@ sized_put_order l k x s q h =
     (λ e. record { wide = h.wide; narrow = words_over (narrow_need l) (2 ^ 32) (order_at l k) (order_kind.narrow_words x) s.narrow (leb-true _ _ e) (order_words x q) h.narrow })
     (λ _. h)
 
--- what is read of an order is a word
-pub order_billed_small : (l : Limits) (k : ℕ) (s : State) → Sized l s → (order_record l k s.narrow).billed < 2 ^ 32
+-- what is read of an order are words
+pub order_small : (l : Limits) (k : ℕ) (s : State) → Sized l s → SmallOrder (order_record l k s.narrow)
 unfolding order_record
-order_billed_small l k s h =
-    cond_both (fits (order_at l k) 6 s.narrow) (order_kind.made (word [] 0) (word s.narrow (order_at l k))) order_kind.nothing (λ (x : Order). x.billed < 2 ^ 32)
-    (λ _. h.narrow.small (order_at l k + 5)) (λ _. omega arith)
+order_small l k s h =
+    cond_both (fits (order_at l k) 6 s.narrow) (order_kind.made (word [] 0) (word s.narrow (order_at l k))) order_kind.nothing SmallOrder
+    (λ _. record {
+      item = h.narrow.small (order_at l k + 1);
+      pieces = h.narrow.small (order_at l k + 2);
+      price = h.narrow.small (order_at l k + 3);
+      moved = h.narrow.small (order_at l k + 4);
+      billed = h.narrow.small (order_at l k + 5);
+    })
+    (λ _. record { item = omega arith; pieces = omega arith; price = omega arith; moved = omega arith; billed = omega arith })
 
 sized_count : (l : Limits) (c : Counter) (v : ℕ) (s : State) → v < 2 ^ 32 → Sized l s → Sized l (state s.wide (put_count c v s.narrow))
 unfolding put_count
@@ -141,6 +153,11 @@ sized_count l c v s lt h = record { wide = h.wide; narrow = words_set (narrow_ne
 pub sized_raised : (l : Limits) (t : Total) (x : ℕ) (s : State) → Sized l s → Sized l (state (raised t x s.wide) s.narrow)
 unfolding raised put_total
 sized_raised l t x s h = record { wide = words_set (wide_need l) (2 ^ 64) s.wide (total_at t) _ (omega arith) h.wide; narrow = h.narrow }
+
+pub sized_lowered : (l : Limits) (t : Total) (x : ℕ) (s : State) → Sized l s → Sized l (state (lowered t x s.wide) s.narrow)
+unfolding lowered put_total total_of
+sized_lowered l t x s h =
+    record { wide = words_set (wide_need l) (2 ^ 64) s.wide (total_at t) _ (omega (arith, h.wide.small (total_at t))) h.wide; narrow = h.narrow }
 
 sized_pushed : (l : Limits) (r : Shape) (i c : ℕ) (s : State) → c < 2 ^ 32 → Sized l s → Sized l (state s.wide (pushed r i c s.narrow))
 sized_pushed l r i c s lt h = record { wide = h.wide; narrow = words_pushed (narrow_need l) (2 ^ 32) r i c s.narrow lt h.narrow }
@@ -173,6 +190,51 @@ sized_lot_placed l c x s q lt h =
     let ht = sized_put_lot l c x s q h in
     let hu : Sized l u = record { wide = ht.wide; narrow = words_removed (narrow_need l) (2 ^ 32) (lot_rows l) l.items (header_of (lot_rows l) l.items) c t.narrow (omega arith) ht.narrow } in
     sized_count l Lots _ (state t.wide (pushed (lot_rows l) x.item c u.narrow)) (omega arith) (sized_pushed l (lot_rows l) x.item c u lt hu)
+
+-- A LOT AS IT IS READ, and what is left of one
+pub lot_small : (l : Limits) (c : ℕ) (s : State) → Sized l s → SmallLot (lot_record l c s)
+unfolding lot_record
+lot_small l c s h =
+    cond_both (lies lot_kind (wide_lot_at l c) (lot_at l c) s) (lot_kind.made (word s.wide (wide_lot_at l c)) (word s.narrow (lot_at l c))) lot_kind.nothing SmallLot
+    (λ _. record { item = h.narrow.small (lot_at l c); pieces = h.narrow.small (lot_at l c + 1); cost = h.wide.small (wide_lot_at l c); «document» = h.wide.small (wide_lot_at l c + 1) })
+    (λ _. record { item = omega arith; pieces = omega arith; cost = omega arith; «document» = omega arith })
+
+sized_lot_left : (l : Limits) (c : ℕ) (p : Lot) (s : State) → Sized l s → Sized l (put_lot l c (rest_of (lot_record l c s) p) s)
+sized_lot_left l c p s h =
+    let q = lot_small l c s h in
+    sized_put_lot l c (rest_of (lot_record l c s) p) s
+    (record { item = q.item; pieces = omega (arith, q.pieces); cost = omega (arith, q.cost); «document» = q.«document» }) h
+
+-- ONE LOT LESS
+sized_lot_freed : (l : Limits) (i c : ℕ) (s : State) → c < 2 ^ 32 → Sized l s → Sized l (state s.wide (lot_freed l i c s.narrow))
+unfolding lot_freed moved_out count_of
+sized_lot_freed l i c s lt h =
+    let u : State = state s.wide (removed (lot_rows l) i (header_of (lot_rows l) i) c s.narrow) in
+    let hu : Sized l u = record { wide = h.wide; narrow = words_removed (narrow_need l) (2 ^ 32) (lot_rows l) i (header_of (lot_rows l) i) c s.narrow (omega arith) h.narrow } in
+    let v : State = state s.wide (inserted (lot_rows l) l.items (free_header l) c u.narrow) in
+    let hv : Sized l v = record { wide = h.wide; narrow = words_inserted (narrow_need l) (2 ^ 32) (lot_rows l) l.items (free_header l) c u.narrow lt hu.narrow } in
+    sized_count l Lots (count_of Lots s.narrow - 1) v (omega (arith, h.narrow.small (count_at Lots))) hv
+
+-- so with all that is taken
+pub steps_sized : (l : Limits) → Good l → StepsKeep l (Sized l)
+steps_sized l good = record { frees = λ i c t e. sized_lot_freed l i c t (omega (arith, first_inside l i t.narrow c e, good.lots)); puts = λ i c t p _. sized_lot_left l c p t }
+
+pub sized_taken : (l : Limits) (ws : List Want) (s : State) → Good l → Sized l s → Sized l (take_all l ws s).slices
+sized_taken l ws s good h = slices_keep l (Sized l) (steps_sized l good) ws s h
+
+-- a part of a lot is of words, as the lot is
+pub part_small : (l : Limits) (c q : ℕ) (s : State) → Sized l s → SmallLot (part_of (lot_record l c s) q)
+unfolding part_of
+part_small l c q s h =
+    let x : Lot = lot_record l c s in
+    let y = lot_small l c s h in
+    cond_both (leb x.pieces q) x (record { item = x.item; pieces = q; cost = share x.cost q x.pieces; «document» = x.«document» }) SmallLot (λ _. y)
+    (λ less. record {
+      item = y.item;
+      pieces = omega (arith, y.pieces, leb-false x.pieces q less);
+      cost = omega (arith, div-le_self (min (2 ^ 64 - 1) (x.cost * q)) x.pieces);
+      «document» = y.«document»;
+    })
 
 pub record SmallEntry (x : Entry) : Type 0 where
   pub left : x.left < 2 ^ 32
@@ -223,6 +285,15 @@ sized_lot_counted l x s h =
     let y : Stock = more_stock (stock_of x.item s.wide) x.pieces x.cost in
     cond_both (ltb x.item l.items) (write_wide stock_kind (stock_at x.item) y s.wide) s.wide (λ (w : List ℕ). Sized l (state w s.narrow))
     (λ _. record { wide = words_write stock_kind (wide_need l) (stock_at x.item) y s.wide (below_two (2 ^ 64) y.pieces y.worth (omega arith) (omega arith)) refl h.wide; narrow = h.narrow })
+    (λ _. h)
+
+pub sized_counted_out : (l : Limits) (i q x : ℕ) (s : State) → Sized l s → Sized l (state (counted_out l i q x s.wide) s.narrow)
+unfolding counted_out put_stock
+sized_counted_out l i q x s h =
+    let y : Stock = less_stock (stock_of i s.wide) q x in
+    let small = stock_small l i s h in
+    cond_both (ltb i l.items) (write_wide stock_kind (stock_at i) y s.wide) s.wide (λ (w : List ℕ). Sized l (state w s.narrow))
+    (λ _. record { wide = words_write stock_kind (wide_need l) (stock_at i) y s.wide (below_two (2 ^ 64) y.pieces y.worth (omega (arith, small.0)) (omega (arith, small.1))) refl h.wide; narrow = h.narrow })
     (λ _. h)
 
 sized_put_balance : (l : Limits) (a : ℕ) (y : Balance) (s : State) → y.left < 2 ^ 64 → y.right < 2 ^ 64 → Sized l s → Sized l (state (put_balance a y s.wide) s.narrow)

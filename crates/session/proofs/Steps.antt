@@ -1,4 +1,4 @@
--- Lots of an item with one more, and totals that are raised. Assumes nothing.
+-- Lots of an item with one more, and totals that are raised and lowered. Assumes nothing.
 use Rattle.std.proofs.Common.{◌≡◌, ℕ, ◌+◌, ◌-◌, ◌^◌, min, Bool, true, false, eqb, List, [], ◌∷◌, ◌++◌, refl, ap, subst}
 use Rattle.firm.specs.Stock as stock
 use Rattle.firm.specs.Stock.{pick, all_worth, of_item}
@@ -7,7 +7,7 @@ use Rattle.layout.specs.declared.head.Total.{Total}
 use Rattle.layout.specs.declared.limits.Limits.{Limits}
 use Rattle.memory.specs.Books.{total_of, put_total}
 use Rattle.records.specs.State.{State, state}
-use Rattle.rules.specs.Totals.{raised}
+use Rattle.rules.specs.Totals.{raised, lowered}
 use Rattle.store.specs.Laws.{with_total}
 use Rattle.store.specs.View.{Kept, Stands}
 use Rattle.store.proofs.TotalLaws.{puts_total}
@@ -30,3 +30,9 @@ unfolding raised
 raised_stands l s b t x good st =
     subst (λ (v : ℕ). Stands l (state (put_total t (min (2 ^ 64 - 1) (total_of t s.wide + x)) s.wide) s.narrow) (with_total t (min (2 ^ 64 - 1) (v + x)) b)) (st.frame.totals t)
     (puts_total l s b t (min (2 ^ 64 - 1) (total_of t s.wide + x)) good st)
+
+pub lowered_stands : (l : Limits) (s : State) (b : Kept) (t : Total) (x : ℕ) → Good l → Stands l s b → Stands l (state (lowered t x s.wide) s.narrow) (with_total t (b.totals t - x) b)
+unfolding lowered
+lowered_stands l s b t x good st =
+    subst (λ (v : ℕ). Stands l (state (put_total t (total_of t s.wide - x) s.wide) s.narrow) (with_total t (v - x) b)) (st.frame.totals t)
+    (puts_total l s b t (total_of t s.wide - x) good st)

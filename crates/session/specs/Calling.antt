@@ -1,5 +1,5 @@
 -- What a call does on any memory, and what is left in the bytes for its answer. Definitions only: nothing is assumed.
-use Rattle.std.specs.Prelude.{◌≡◌, ℕ, ◌≤◌, Bool, cond, ◌&&◌, List, length, Some, None, Option, nat_le, nat_lt}
+use Rattle.std.specs.Prelude.{◌≡◌, ℕ, ◌≤◌, Bool, true, false, cond, ◌&&◌, List, length, Some, None, Option, nat_le, nat_lt}
 use Rattle.fields.specs.Written.{over}
 use Rattle.firm.specs.Calls.{Call, buys, sells, comes, goes, billed_by, bills, pays_out, pays_in, made_of, makes, counted, stock_of, account, order, lots_of, entries_from, garbled, Answer, refused, lots}
 use Rattle.layout.specs.Layout.{is_good, wide_need, narrow_need, answer_need}
@@ -8,7 +8,8 @@ use Rattle.memory.specs.Books.{limits_in}
 use Rattle.questions.specs.Listing.{lots_met}
 use Rattle.records.specs.State.{State}
 use Rattle.rules.specs.Asking.{stock_told, account_told, order_told}
-use Rattle.rules.specs.Buying as buying
+use Rattle.rules.specs.Ordering.{ordered}
+use Rattle.rules.specs.Going as going
 use Rattle.rules.specs.Outcome.{Outcome, outcome, refuse}
 use Rattle.rules.specs.Receiving as receiving
 use Rattle.wire.specs.Answers.{bytes_of_answer}
@@ -18,10 +19,10 @@ lots_told l i s = cond (nat_lt i l.items) (lots (lots_met l i s)) (refused 2 0)
 
 -- THE STAGE: what is not done yet is turned away by 2
 abbrev pub done : Limits → Call → State → Outcome
-done l (buys i q p) s = buying.buys l i q p s
-done l (sells i q p) s = refuse 2 0 s
+done l (buys i q p) s = ordered l false i q p s
+done l (sells i q p) s = ordered l true i q p s
 done l (comes o q) s = receiving.comes l o q s
-done l (goes o q) s = refuse 2 0 s
+done l (goes o q) s = going.goes l o q s
 done l (billed_by o q x) s = refuse 2 0 s
 done l (bills o q) s = refuse 2 0 s
 done l (pays_out x) s = refuse 2 0 s

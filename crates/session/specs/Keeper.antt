@@ -2,7 +2,7 @@
 use Rattle.std.specs.Prelude.{◌≡◌, ◌++◌, take, drop, replicate}
 use Rattle.firm.specs.Firm.{Firm}
 use Rattle.firm.specs.Calls.{Limits}
-use Rattle.firm.specs.Promise.{Memory, Keeper, thin}
+use Rattle.firm.specs.Promise.{Memory, Keeper}
 use Rattle.firm.specs.Statements.{Reached}
 use Rattle.layout.specs.Layout.{wide_need, narrow_need}
 use Rattle.layout.specs.declared.limits.Limits as memory
@@ -11,6 +11,7 @@ use Rattle.memory.specs.Opened.{opened}
 use Rattle.records.specs.State.{State, state}
 use Rattle.session.specs.Calling.{done}
 use Rattle.session.specs.Means.{limits_of, Means}
+use Rattle.session.specs.Stage.{in_stage}
 
 -- the words of both slices, one behind the other; the limits in front say where the narrow one ends
 abbrev pub memory_of : State → Memory
@@ -37,11 +38,11 @@ pub record Standing (l : Limits) (m : Memory) (f : Firm) : Type 0 where
   pub words : m ≡ memory_of slices
   pub means : Means (limits_of l) slices f
   pub reached : Reached l f
-  pub cans : l.calls_can ≡ thin
+  pub cans : l.calls_can ≡ in_stage
 
 -- the same limits for this stage: the keeper does not look at which calls they name
 abbrev pub for_stage : Limits → Limits
-for_stage l = record { calls_can = thin; items = l.items; orders = l.orders; lots = l.lots; parts = l.parts; entries = l.entries }
+for_stage l = record { calls_can = in_stage; items = l.items; orders = l.orders; lots = l.lots; parts = l.parts; entries = l.entries }
 
 -- the words stand for some firm
 abbrev pub Sound : Limits → Memory → Type 0

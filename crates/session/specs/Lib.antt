@@ -1,3 +1,4 @@
+pub mod Stage
 pub mod Lengths
 pub mod Boundary
 pub mod Opening

@@ -2,6 +2,7 @@
 
 ghost use Rattle.std.specs.Prelude.{◌≡◌, ◌≤◌, T, length, if◌then◌else◌};
 ghost use Rattle.wire.specs.Calls.{call_of};
+ghost use Rattle.rules.specs.Going.{goes};
 ghost use Rattle.rules.specs.Outcome.{refusing};
 ghost use Rattle.session.specs.Calling.{Said, done, lots_told, holds, called_of, called, Fits};
 ghost use Rattle.wire.specs.Said.{said as meant, are_parts};
@@ -12,6 +13,7 @@ ghost use Rattle.memory.specs.Lent.{seen, words, Same};
 ghost use Rattle.records.specs.State.{state};
 
 use crate::short::say;
+use fields::{ONE_FIELD, ROW_OF_FOUR};
 use layout::Limits;
 use memory::{Memory, View};
 use rules::Refused;
@@ -25,6 +27,19 @@ fn say_lots(view: View<'_>, item: u64, out: &mut [u8]) -> usize
     match rules::known_item(view.limits, item) {
         Some(item) => questions::write_lots(view, item, out).unwrap_or(0),
         None => say(Refused::first(Refusal::BadField), out),
+    }
+}
+
+// Lets goods go: what was taken is in the answer already, and its length is that of so many lines.
+fn say_goes(memory: &mut Memory<'_>, order: u64, pieces: u64, out: &mut [u8]) -> usize
+    requires { answer_need memory.old.limits ≤ length out.old }
+    ensures memory { words memory.new ≡ (goes memory.old.limits order pieces (words memory.old)).left }
+    ensures same { Same memory.old memory.new }
+    ensures bytes { Said (goes memory.old.limits order pieces (words memory.old)).answer result out.old out.new }
+{
+    match rules::goes(memory, order, pieces, out) {
+        Ok(taken) => ONE_FIELD + ROW_OF_FOUR * taken.lines as usize,
+        Err(refused) => say(refused, out),
     }
 }
 
@@ -58,15 +73,15 @@ fn answer(memory: &mut Memory<'_>, call: Call<'_>, out: &mut [u8]) -> usize
 {
     match call {
         Call::Buys(item, pieces, price) => say(rules::buys(memory, item, pieces, price), out),
+        Call::Sells(item, pieces, price) => say(rules::sells(memory, item, pieces, price), out),
         Call::Comes(order, pieces) => say(rules::comes(memory, order, pieces), out),
+        Call::Goes(order, pieces) => say_goes(memory, order, pieces, out),
         Call::StockOf(item) => say(rules::stock_of(memory.view(), item), out),
         Call::Account(account) => say(rules::account(memory.view(), account), out),
         Call::Order(order) => say(rules::order(memory.view(), order), out),
         Call::LotsOf(item) => say_lots(memory.view(), item, out),
         Call::MadeOf(_, parts) => say(Refused::first(recipe_refusal(parts)), out),
-        Call::Sells(_, _, _)
-        | Call::Goes(_, _)
-        | Call::BilledBy(_, _, _)
+        Call::BilledBy(_, _, _)
         | Call::Bills(_, _)
         | Call::PaysOut(_)
         | Call::PaysIn(_)

@@ -1,7 +1,8 @@
 //! The promises of the books, for every list of calls. The keeper is what the contracts of `open` and `call` say of memory.
 
-ghost use Rattle.firm.specs.Promise.{Right, RefusalKeeps, EnoughMemory, thin};
+ghost use Rattle.firm.specs.Promise.{Right, RefusalKeeps, EnoughMemory};
 ghost use Rattle.session.specs.Keeper.{keeper as booksKeeper, Standing, Sound};
+ghost use Rattle.session.specs.Stage.{in_stage};
 
 use firm::Keeps;
 
@@ -9,7 +10,7 @@ use firm::Keeps;
 pub struct Stage;
 
 impl Keeps for Stage {
-    ghost stage = { λ _. thin };
+    ghost stage = { λ _. in_stage };
 
     ghost keeper = { λ _. booksKeeper };
 
@@ -20,14 +21,14 @@ impl Keeps for Stage {
 
 /// For every list of calls the answers are those of the books.
 pub fn answers_are_right()
-    ensures { Right thin booksKeeper }
+    ensures { Right in_stage booksKeeper }
 {
     firm::right_by_steps(&Stage);
 }
 
 /// A call that is turned away leaves memory as it was, word for word.
 pub fn refusals_keep()
-    ensures { RefusalKeeps thin booksKeeper }
+    ensures { RefusalKeeps in_stage booksKeeper }
 {
     firm::refusal_keeps_by_steps(&Stage);
 }

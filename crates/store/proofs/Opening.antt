@@ -20,7 +20,7 @@ use Rattle.store.proofs.OrderLaws.{adds_order, refuses_order, sets_order, reads_
 use Rattle.store.proofs.EntryLaws.{adds_entry, refuses_entry, reads_entry, walks_entries}
 use Rattle.store.proofs.RecipeLaws.{adds_part, refuses_part, adds_recipe, refuses_recipe}
 use Rattle.store.proofs.TotalLaws.{puts_total}
-use Rattle.store.proofs.SumLaws.{counts_in, posts}
+use Rattle.store.proofs.SumLaws.{counts_in, counts_out, posts}
 
 empty_stands : (l : Limits) (s : State) → Empty l s → Stands l s nothing_kept
 empty_stands l s e = record {
@@ -85,5 +85,6 @@ store_laws = record {
   refuses_recipe = refuses_recipe;
   puts_total = puts_total;
   counts_in = counts_in;
+  counts_out = counts_out;
   posts = posts;
 }

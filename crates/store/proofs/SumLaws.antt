@@ -1,4 +1,4 @@
--- Sums that change: an item's by a lot that is counted, two accounts' by an entry that is posted. All else stays.
+-- Sums that change: an item's by a lot that is counted or pieces that are counted out, two accounts' by an entry that is posted. All else stays.
 use Rattle.std.proofs.Common.{◌≡◌, ℕ, ◌<◌, cond, eqb, ◌≢◌, ◌⊎◌, List, sym, refl, ap, ◌∙◌, subst, inl, inr, arith}
 use Rattle.std.proofs.lemmas.Bool.{cases_eq, cond-true, cond-false, eq-eqb, ne_eqb}
 use Rattle.layout.proofs.Owners.{number, differ}
@@ -11,8 +11,8 @@ use Rattle.memory.specs.Slots.{Within}
 use Rattle.records.specs.State.{State, state}
 use Rattle.records.specs.declared.balance.Balance.{Balance}
 use Rattle.records.specs.declared.stock.Stock.{Stock}
-use Rattle.store.specs.Laws.{with_stocks, with_balances, stock_with, CountsIn, Posts}
-use Rattle.store.specs.Steps.{sum, more_stock, lot_counted, more_left, more_right, left_posted, right_posted}
+use Rattle.store.specs.Laws.{with_stocks, with_balances, stock_with, stock_without, CountsIn, CountsOut, Posts}
+use Rattle.store.specs.Steps.{sum, more_stock, lot_counted, less_stock, counted_out, more_left, more_right, left_posted, right_posted}
 use Rattle.store.specs.View.{Kept, SumsStand, Stands}
 use Rattle.store.proofs.Kept.{frame_kept, lots_kept, orders_kept, entries_kept, recipes_kept}
 use Rattle.store.proofs.Tables.{when_lt}
@@ -32,30 +32,42 @@ with_sums l s s' b of on y good far same with_in st h = record {
   sums = h;
 }
 
+-- the sums of one item are put
+stock_put : (l : Limits) (s : State) (b : Kept) (i : ℕ) (v : Stock) (of : ℕ → Stock) → Good l → Stands l s b → i < l.items → v ≡ of i → ((j : ℕ) → i ≢ j → b.stocks j ≡ of j) →
+    Stands l (state (put_stock i v s.wide) s.narrow) (with_stocks of b)
+stock_put l s b i v of good st it here others =
+    with_sums l s t b of b.balances stocks good (λ z p q. differ z stocks p) refl w st (record {
+      stocks = λ j lt. at j lt (cases_eq i j);
+      balances = λ a lt. (balance_slots l).kept a stocks s t lt (differ _ _ (λ e. omega arith)) w ∙ st.sums.balances a lt;
+    })
+  where
+    t : State
+    t = state (put_stock i v s.wide) s.narrow
+
+    w : Within stocks l s t
+    w = (stock_slots l).within i v s it
+
+    at : (j : ℕ) → j < l.items → (i ≡ j) ⊎ (i ≡ j → ⊥) → stock_of j t.wide ≡ of j
+    at j lt (inl e) = ap (λ (k : ℕ). stock_of k t.wide) (sym e) ∙ (stock_slots l).same i v s st.frame.roomy it ∙ here ∙ ap of e
+    at j lt (inr ne) = (stock_slots l).other j i v s (λ e. ne (sym e)) ∙ st.sums.stocks j lt ∙ others j ne
+
 -- A LOT IS COUNTED
 pub counts_in : CountsIn
 unfolding lot_counted
 counts_in l s b x good st it =
-    subst (λ (w : List ℕ). Stands l (state w s.narrow) (with_stocks (λ i. stock_with x i (b.stocks i)) b)) (sym (when_lt x.item l.items t.wide s.wide it))
-    (with_sums l s t b _ b.balances stocks good (λ z p q. differ z stocks p) refl w st (record {
-      stocks = λ i lt. at i lt (cases_eq x.item i);
-      balances = λ a lt. (balance_slots l).kept a stocks s t lt (differ _ _ (λ e. omega arith)) w ∙ st.sums.balances a lt;
-    }))
-  where
-    more : Stock
-    more = more_stock (stock_of x.item s.wide) x.pieces x.cost
+    subst (λ (w : List ℕ). Stands l (state w s.narrow) (with_stocks (λ i. stock_with x i (b.stocks i)) b)) (sym (when_lt x.item l.items _ s.wide it))
+    (stock_put l s b x.item (more_stock (stock_of x.item s.wide) x.pieces x.cost) (λ i. stock_with x i (b.stocks i)) good st it
+    (ap (λ (a : Stock). more_stock a x.pieces x.cost) (st.sums.stocks x.item it) ∙ sym (cond-true (eqb x.item x.item) _ (b.stocks x.item) (eq-eqb x.item x.item refl)))
+    (λ j ne. sym (cond-false (eqb x.item j) _ (b.stocks j) (ne_eqb x.item j ne))))
 
-    t : State
-    t = state (put_stock x.item more s.wide) s.narrow
-
-    w : Within stocks l s t
-    w = (stock_slots l).within x.item more s it
-
-    at : (i : ℕ) → i < l.items → (x.item ≡ i) ⊎ (x.item ≡ i → ⊥) → stock_of i t.wide ≡ stock_with x i (b.stocks i)
-    at i lt (inl e) =
-        ap (λ (j : ℕ). stock_of j t.wide) (sym e) ∙ (stock_slots l).same x.item more s st.frame.roomy it
-        ∙ ap (λ (a : Stock). more_stock a x.pieces x.cost) (st.sums.stocks x.item it ∙ ap b.stocks e) ∙ sym (cond-true (eqb x.item i) _ (b.stocks i) (eq-eqb x.item i e))
-    at i lt (inr ne) = (stock_slots l).other i x.item more s (λ e. ne (sym e)) ∙ st.sums.stocks i lt ∙ sym (cond-false (eqb x.item i) _ (b.stocks i) (ne_eqb x.item i ne))
+-- PIECES ARE COUNTED OUT
+pub counts_out : CountsOut
+unfolding counted_out
+counts_out l s b i q x good st it =
+    subst (λ (w : List ℕ). Stands l (state w s.narrow) (with_stocks (λ j. stock_without i q x j (b.stocks j)) b)) (sym (when_lt i l.items _ s.wide it))
+    (stock_put l s b i (less_stock (stock_of i s.wide) q x) (λ j. stock_without i q x j (b.stocks j)) good st it
+    (ap (λ (a : Stock). less_stock a q x) (st.sums.stocks i it) ∙ sym (cond-true (eqb i i) _ (b.stocks i) (eq-eqb i i refl)))
+    (λ j ne. sym (cond-false (eqb i j) _ (b.stocks j) (ne_eqb i j ne))))
 
 -- AN ENTRY IS POSTED: one side of one account, and then the other side of another
 balance_put : (l : Limits) (s : State) (b : Kept) (a : ℕ) (v : Balance) (on : ℕ → Balance) → Good l → Stands l s b → a < 16 → v ≡ on a → ((j : ℕ) → a ≢ j → b.balances j ≡ on j) →

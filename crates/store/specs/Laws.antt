@@ -17,7 +17,7 @@ use Rattle.records.specs.declared.order.Order.{Order}
 use Rattle.records.specs.declared.part.Part.{Part}
 use Rattle.records.specs.declared.recipe.Recipe.{Recipe}
 use Rattle.records.specs.declared.stock.Stock.{Stock}
-use Rattle.store.specs.Steps.{after, lot_placed, lot_freed, add_lot, remove_lot, nth_lot, first_lot, lot_after, first_order, order_after, first_entry, entry_after, order_placed, add_order, set_order, nth_order, entry_placed, add_entry, nth_entry, part_placed, add_part, front, recipe_placed, add_recipe, sum, more_stock, lot_counted, post}
+use Rattle.store.specs.Steps.{after, lot_placed, lot_freed, add_lot, remove_lot, nth_lot, first_lot, lot_after, first_order, order_after, first_entry, entry_after, order_placed, add_order, set_order, nth_order, entry_placed, add_entry, nth_entry, part_placed, add_part, front, recipe_placed, add_recipe, sum, more_stock, lot_counted, less_stock, counted_out, post}
 use Rattle.store.specs.View.{Kept, numbers, entries_of, Stands}
 use Rattle.store.specs.declared.refusal.Refusal.TheVariants.{NoLot, Full}
 
@@ -151,9 +151,12 @@ AddsRecipe =
 abbrev pub PutsTotal : Type 0
 PutsTotal = (l : Limits) (s : State) (b : Kept) (t : Total) (v : ℕ) → Good l → Stands l s b → Stands l (state (put_total t v s.wide) s.narrow) (with_total t v b)
 
--- SUMS. What an item's sums are once a lot is counted, and an account's once an entry is posted
+-- SUMS. What an item's sums are once a lot is counted or pieces are counted out, and an account's once an entry is posted
 abbrev pub stock_with : Lot → ℕ → Stock → Stock
 stock_with x i a = cond (x.item == i) (more_stock a x.pieces x.cost) a
+
+abbrev pub stock_without : ℕ → ℕ → ℕ → ℕ → Stock → Stock
+stock_without i q x j a = cond (i == j) (less_stock a q x) a
 
 abbrev pub balance_with : Entry → ℕ → Balance → Balance
 balance_with x a b = record { left = cond (x.left == a) (sum b.left x.amount) b.left; right = cond (x.right == a) (sum b.right x.amount) b.right }
@@ -161,6 +164,11 @@ balance_with x a b = record { left = cond (x.left == a) (sum b.left x.amount) b.
 abbrev pub CountsIn : Type 0
 CountsIn =
     (l : Limits) (s : State) (b : Kept) (x : Lot) → Good l → Stands l s b → x.item < l.items → Stands l (state (lot_counted l x s.wide) s.narrow) (with_stocks (λ i. stock_with x i (b.stocks i)) b)
+
+abbrev pub CountsOut : Type 0
+CountsOut =
+    (l : Limits) (s : State) (b : Kept) (i q x : ℕ) → Good l → Stands l s b → i < l.items →
+    Stands l (state (counted_out l i q x s.wide) s.narrow) (with_stocks (λ j. stock_without i q x j (b.stocks j)) b)
 
 abbrev pub Posts : Type 0
 Posts =
@@ -190,4 +198,5 @@ pub record StoreLaws : Type 0 where
   pub refuses_recipe : RefusesRecipe
   pub puts_total : PutsTotal
   pub counts_in : CountsIn
+  pub counts_out : CountsOut
   pub posts : Posts

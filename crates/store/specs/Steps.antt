@@ -166,6 +166,13 @@ lot_counted l x w = cond (nat_lt x.item l.items) (put_stock x.item (more_stock (
 abbrev pub count_in : Limits → ℕ → State → List ℕ
 count_in l c s = lot_counted l (lot_record l c s) s.wide
 
+-- an item's sums with q pieces fewer, which cost x, and these counted out of it, if that is there
+abbrev pub less_stock : Stock → ℕ → ℕ → Stock
+less_stock a q x = record { pieces = a.pieces - q; worth = a.worth - x }
+
+unfoldable pub counted_out : Limits → ℕ → ℕ → ℕ → List ℕ → List ℕ
+counted_out l i q x w = cond (nat_lt i l.items) (put_stock i (less_stock (stock_of i w) q x) w) w
+
 -- an amount is posted on the left of an account, and on the right of one
 abbrev pub more_left : Balance → ℕ → Balance
 more_left b x = record { left = sum b.left x; right = b.right }

@@ -18,7 +18,7 @@ pub use lots::{add_lot, first_lot, free_lot, lot_after, nth_lot, remove_lot};
 pub use orders::{add_order, first_order, nth_order, order_after, set_order};
 pub use recipes::{add_part, add_recipe};
 pub use refusal::Refusal;
-pub use sums::{count_in, post};
+pub use sums::{count_in, count_out, post};
 
 /// What each function means for the lists of lots, orders, entries and parts and for the sums: it changes what it is about, and no other.
 #[tactic(auto, using(crate::proofs::Opening::store_laws))]

@@ -2,7 +2,7 @@
 
 ghost use Rattle.std.specs.Prelude.{◌≡◌};
 ghost use Rattle.memory.specs.Lent.{words, WideAlone};
-ghost use Rattle.store.specs.Steps.{lot_counted, count_in, left_posted, right_posted, post};
+ghost use Rattle.store.specs.Steps.{lot_counted, count_in, counted_out, left_posted, right_posted, post};
 
 use memory::Memory;
 use records::{Balance, Entry, Lot, Stock};
@@ -30,6 +30,23 @@ pub fn count_in(memory: &mut Memory<'_>, cell: u32)
 {
     let lot = memory.view().lot(cell);
     count_lot(memory, lot);
+}
+
+/// Counts pieces of an item out: so many fewer on hand, which cost so much less.
+#[tactic(auto, unfolding(crate::specs::Steps::counted_out))]
+pub fn count_out(memory: &mut Memory<'_>, item: u32, pieces: u64, cost: u64)
+    ensures wide { memory.new.wide.now ≡ counted_out memory.old.limits item pieces cost memory.old.wide.now }
+    ensures alone { WideAlone memory.old memory.new }
+{
+    if item >= memory.limits.items {
+        return;
+    }
+    let stock = memory.view().stock(item);
+    let less = Stock {
+        pieces: stock.pieces.saturating_sub(pieces),
+        worth: stock.worth.saturating_sub(cost),
+    };
+    memory.put_stock(item, less);
 }
 
 #[tactic(auto, unfolding(crate::specs::Steps::left_posted))]

@@ -1,6 +1,9 @@
 -- What each step of taking keeps of the slices, taking keeps, on any memory. Assumes nothing.
-use Rattle.std.proofs.Common.{◌≡◌, ℕ, zero, suc, ◌-◌, ◌<◌, cond, eqb, ltb, List, [], ◌∷◌, Some, None, Option, refl, arith}
-use Rattle.std.proofs.lemmas.Bool.{cond_both, ltb-true}
+use Rattle.std.proofs.Common.{◌≡◌, ℕ, zero, suc, ◌-◌, ◌<◌, Bool, true, cond, eqb, ltb, List, [], ◌∷◌, ◌++◌, Some, None, Option, sym, refl, ap, ◌∙◌, arith}
+use Rattle.std.proofs.lemmas.Bool.{cond_both, ltb-true, and_from, and_parts}
+use Rattle.firm.specs.Stock as firm
+use Rattle.questions.specs.Listing.{lot_of}
+use Rattle.wire.specs.Answers.{each}
 use Rattle.layout.specs.Layout.{lot_rows}
 use Rattle.layout.specs.declared.limits.Limits.{Limits}
 use Rattle.links.specs.Area.{after_in, header_of}
@@ -46,6 +49,48 @@ module _ (l : Limits) (P : State → Type 0) (keep : StepsKeep l P) where
   pub slices_keep : (ws : List Want) (s : State) → P s → P (take_all l ws s).slices
   unfolding take_all
   slices_keep ws s h = each_keeps ws 0 s h
+
+-- WHAT IS TAKEN passes a test that each part of an oldest lot passes
+each_append : (ok : firm.Lot → Bool) (xs ys : List firm.Lot) → each ok xs ≡ true → each ok ys ≡ true → each ok (xs ++ ys) ≡ true
+unfolding each
+each_append ok [] ys h k = k
+each_append ok (x ∷ xs) ys h k =
+    let p = and_parts (ok x) (each ok xs) h in
+    and_from (ok x) (each ok (xs ++ ys)) p.0 (each_append ok xs ys p.1 k)
+
+module _ (l : Limits) (P : State → Type 0) (keep : StepsKeep l P) (ok : firm.Lot → Bool) (gives : (c q : ℕ) (s : State) → P s → ok (lot_of (part_of (lot_record l c s) q)) ≡ true) where
+  oldest_gives : (i q : ℕ) (s : State) → P s → (p : Lot) → (take_oldest l i q s).part ≡ Some p → ok (lot_of p) ≡ true
+  unfolding take_oldest
+  oldest_gives i q s h p = by (first_lot l i s.narrow)
+    where
+      by : (o : Option ℕ) → (on_oldest l i q s o).part ≡ Some p → ok (lot_of p) ≡ true
+      by None e = let z : ◌≡◌ {A = ℕ} 0 1 = cc in absurd (omega arith)
+      by (Some c) e =
+          let same : part_of (lot_record l c s) q ≡ p = cc in
+          ap (λ (x : Lot). ok (lot_of x)) (sym same) ∙ gives c q s h
+
+  row_gives : (k i q : ℕ) (s : State) → P s → each ok (taken_on k l i q s).parts ≡ true
+  unfolding each
+  row_gives zero i q s h = refl
+  row_gives (suc k) i q s h =
+      cond_both (eqb q 0) (taking s []) (on k l i q s (take_oldest l i q s)) (λ (t : Taking). each ok t.parts ≡ true) (λ _. refl)
+      (λ _. by (row_gives k) (take_oldest l i q s).part (take_oldest l i q s).slices (oldest_keeps l P keep i q s h) (oldest_gives i q s h))
+    where
+      by : ((j r : ℕ) (x : State) → P x → each ok (taken_on k l j r x).parts ≡ true) → (o : Option Lot) (x : State) → P x → ((p : Lot) → o ≡ Some p → ok (lot_of p) ≡ true)
+          → each ok (on k l i q s (gave o x)).parts ≡ true
+      by rec None x kept gave-one = refl
+      by rec (Some p) x kept gave-one = and_from (ok (lot_of p)) _ (gave-one p refl) (rec i (q - p.pieces) x kept)
+
+  each_gives : (ws : List Want) (n : ℕ) (s : State) → P s → each ok (taken_each ws l n s).parts ≡ true
+  unfolding each
+  each_gives [] n s h = refl
+  each_gives (w ∷ ws) n s h =
+      each_append ok (taken_on (most_lines l - n) l w.item w.pieces s).parts _ (row_gives (most_lines l - n) w.item w.pieces s h)
+      (each_gives ws _ _ (row_keeps l P keep (most_lines l - n) w.item w.pieces s h))
+
+  pub parts_pass : (ws : List Want) (s : State) → P s → each ok (take_all l ws s).parts ≡ true
+  unfolding take_all
+  parts_pass ws s h = each_gives ws 0 s h
 
 -- the cell of an item's oldest lot is one of the lots'
 pub first_inside : (l : Limits) (i : ℕ) (n : List ℕ) (c : ℕ) → first_lot l i n ≡ Some c → c < l.lots

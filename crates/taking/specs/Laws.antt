@@ -1,8 +1,8 @@
 -- What taking means for the lots of the books, on memory that stands for them. Definitions only: nothing is assumed.
-use Rattle.std.specs.Prelude.{◌≡◌, ℕ, ◌-◌, ◌^◌, ◌<◌, ◌≤◌, min, List, [], ◌∷◌, map, length}
+use Rattle.std.specs.Prelude.{◌≡◌, ℕ, ◌+◌, ◌-◌, ◌^◌, ◌<◌, ◌≤◌, ◌≢◌, min, List, [], ◌∷◌, ◌++◌, map, length}
 use Rattle.fields.specs.Written.{over}
 use Rattle.firm.specs.Stock as firm
-use Rattle.firm.specs.Stock.{take, of_item, all_worth}
+use Rattle.firm.specs.Stock.{take, of_item, on_hand, all_worth}
 use Rattle.firm.specs.Calls.{lots}
 use Rattle.firm.specs.Laws.{AllSmall}
 use Rattle.layout.specs.Layout.{Good, answer_need}
@@ -59,6 +59,21 @@ Takes =
     (l : Limits) (s : State) (b : Kept) (ls : List firm.Lot) (ws : List Want) → Good l → Stands l s b → LotsMean l b.lots_of b.lots_used ls → Priced ls → KnownItems l ws → length ws ≤ 256 →
     Took l b (take_all l ws s) (wanted ls ws)
 
+-- WHAT THE CODE TAKES of one item, on memory that stands for books: no piece and no cent is lost, and what was taken is said truly
+abbrev pub LosesNothing : Type 0
+LosesNothing =
+    (l : Limits) (s : State) (b : Kept) (ls : List firm.Lot) (w : Want) → Good l → Stands l s b → LotsMean l b.lots_of b.lots_used ls → Priced ls → w.item < l.items →
+    let t : Taking = take_all l (w ∷ []) s in
+    (left : List firm.Lot) × LotsLeft l t.slices b left × (all_worth left + all_worth t.parts ≡ all_worth ls) × (on_hand left w.item + on_hand t.parts w.item ≡ on_hand ls w.item)
+    × ((j : ℕ) → j ≢ w.item → on_hand left j ≡ on_hand ls j)
+
+-- and of a younger lot nothing is taken while the lot x is left: what comes behind it stays
+abbrev pub OldestFirst : Type 0
+OldestFirst =
+    (l : Limits) (s : State) (b : Kept) (xs ys : List firm.Lot) (x : firm.Lot) (w : Want) → Good l → Stands l s b → LotsMean l b.lots_of b.lots_used (xs ++ (x ∷ ys)) → Priced (xs ++ (x ∷ ys)) →
+    w.item < l.items → x.item ≡ w.item → w.pieces < x.pieces + on_hand xs w.item →
+    (rest : List firm.Lot) × LotsLeft l (take_all l (w ∷ []) s).slices b (rest ++ ys)
+
 -- ON ANY MEMORY an answer has room for what was taken, and says it; where no bytes are lent, none is written
 abbrev pub TakesFew : Type 0
 TakesFew = (l : Limits) (ws : List Want) (s : State) → length (take_all l ws s).parts ≤ most_lines l
@@ -79,6 +94,8 @@ SumsCosts = (ps : List firm.Lot) (old : List ℕ) → (told ps old).taken.cost �
 pub record TakingLaws : Type 0 where
   pub costs : Costs
   pub takes : Takes
+  pub loses_nothing : LosesNothing
+  pub oldest_first : OldestFirst
   pub takes_few : TakesFew
   pub tells : Tells
   pub counts_lines : CountsLines

@@ -15,7 +15,8 @@ pub use costs::cost_of;
 pub use takes::take_all;
 pub use wants::{Taken, Want};
 
-/// What both functions mean on memory that stands for books: they cost, leave and write what taking does in the books.
+/// What both functions mean on memory that stands for books: they cost, leave and write what taking does in the books, lose no piece and no cent, and
+/// leave what is younger than a lot that is left.
 #[tactic(auto, using(crate::proofs::TakingLaws::taking_laws))]
 pub fn taking_stands()
     ensures { TakingLaws }

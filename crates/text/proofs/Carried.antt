@@ -1,35 +1,39 @@
 -- Every answer on memory of small words has numbers that its bytes can carry. Assumes nothing.
-use Rattle.std.proofs.Common.{◌≡◌, ℕ, ◌+◌, ◌*◌, ◌^◌, ◌<◌, true, cond, ltb, leb, List, [], ◌∷◌, ◌++◌, length, get_or, Ok, Err, Result, refl, arith}
-use Rattle.std.proofs.lemmas.Bool.{cond_both, and_from, and_parts, lt-ltb}
+use Rattle.std.proofs.Common.{◌≡◌, ℕ, ◌+◌, ◌*◌, ◌^◌, ◌<◌, ◌≤◌, Bool, true, false, cond, ltb, leb, List, [], ◌∷◌, ◌++◌, length, Ok, Err, Result, refl, arith}
+use Rattle.std.proofs.lemmas.Bool.{cond_both, and_from, and_parts, leb-true, lt-ltb}
 use Rattle.firm.specs.Stock as stock
 use Rattle.firm.specs.Calls.{Call, Answer, refused, number, two, lots, field, readable}
 use Rattle.firm.specs.Calls as calls
 use Rattle.firm.specs.Refusals.{some_pieces}
-use Rattle.layout.specs.Layout.{Good, lot_rows, order_at, lot_at, wide_lot_at}
+use Rattle.layout.specs.Layout.{Good, lot_rows}
 use Rattle.layout.specs.declared.head.Counter.TheVariants.{Orders}
 use Rattle.layout.specs.declared.head.Total.TheVariants.{Documents}
 use Rattle.layout.specs.declared.limits.Limits.{Limits}
-use Rattle.memory.specs.Books.{count_of, total_of, order_record, lot_record, balance_of, stock_of}
+use Rattle.memory.specs.Books.{count_of, total_of, order_record, put_order, lot_record, balance_of, stock_of}
 use Rattle.questions.specs.Listing.{lot_of, lots_step, lots_met}
 use Rattle.std.specs.List.{fold}
 use Rattle.links.specs.Walk.{cells_in}
 use Rattle.questions.proofs.Listed.{met_few}
-use Rattle.records.specs.Kind.{fits, lies, word}
-use Rattle.records.specs.Kinds.{lot_kind, order_kind}
-use Rattle.records.specs.State.{State}
+use Rattle.records.specs.State.{State, state}
 use Rattle.records.specs.declared.lot.Lot.{Lot}
 use Rattle.records.specs.declared.order.Order.{Order}
-use Rattle.rules.specs.Buying.{new_order, buys_fields, added}
 use Rattle.rules.specs.Checks.{in_time}
+use Rattle.rules.specs.Ordering.{new_order, order_fields, added, ordered}
 use Rattle.rules.specs.Outcome.{Outcome, refuse}
-use Rattle.rules.specs.Receiving.{comes_fits, new_lot, placed, stored}
+use Rattle.rules.specs.Going.{gone, goes_fits, let_go}
+use Rattle.rules.specs.Receiving.{comes_fits, new_lot, placed, stored, moved_more, with_order}
+use Rattle.taking.specs.Parts.{part_of}
+use Rattle.taking.specs.Takes.{want, cost_of, take_all}
+use Rattle.taking.specs.declared.wants.Want.{Want}
+use Rattle.taking.proofs.StepKeeping.{parts_pass}
+use Rattle.taking.proofs.TakingLaws.{takes_few}
 use Rattle.session.specs.Calling.{done}
 use Rattle.session.specs.Means.{Sized}
-use Rattle.session.proofs.Small.{balance_small, stock_small}
+use Rattle.session.proofs.Small.{SmallLot, balance_small, stock_small, order_small, lot_small, part_small, sized_put_order, steps_sized}
 use Rattle.store.specs.Steps.{After, add_order, add_lot, order_placed}
 use Rattle.store.specs.Steps as steps
 use Rattle.store.specs.declared.refusal.Refusal.{Refusal}
-use Rattle.store.specs.declared.refusal.Refusal.TheVariants.{Full, NoSuchItem}
+use Rattle.store.specs.declared.refusal.Refusal.TheVariants.{Full, NoSuchItem, NoSuchOrder}
 use Rattle.wire.specs.Answers.{carries, each, lot_fits}
 
 small : (n : ℕ) → n < 2 ^ 64 → field n ≡ true
@@ -57,26 +61,18 @@ none_carried : each lot_fits [] ≡ true
 unfolding each
 none_carried = refl
 
+-- A LOT of words, and parts of lots that are taken
+lot_carried : (x : Lot) → SmallLot x → lot_fits (lot_of x) ≡ true
+lot_carried x q =
+    and_from (field x.item) _ (small _ (omega (arith, q.item))) (and_from (field x.pieces) _ (small _ (omega (arith, q.pieces))) (and_from (field x.cost) (field x.«document») (small _ q.cost) (small _ q.«document»)))
+
+taken_carried : (l : Limits) (ws : List Want) (s : State) → Good l → Sized l s → Carried (lots (take_all l ws s).parts)
+taken_carried l ws s good z =
+    and_from (field (length (take_all l ws s).parts)) _ (small _ (omega (arith, takes_few l ws s)))
+    (parts_pass l (Sized l) (steps_sized l good) lot_fits (λ c q t h. lot_carried (part_of (lot_record l c t) q) (part_small l c q t h)) ws s z)
+
 module _ (l : Limits) (s : State) (z : Sized l s) where
   -- records that are read from small words
-  lot_carried : (c : ℕ) → lot_fits (lot_of (lot_record l c s)) ≡ true
-  unfolding lot_record
-  lot_carried c =
-      cond_both (lies lot_kind (wide_lot_at l c) (lot_at l c) s) (lot_kind.made (word s.wide (wide_lot_at l c)) (word s.narrow (lot_at l c))) lot_kind.nothing (λ (x : Lot). lot_fits (lot_of x) ≡ true)
-      (λ _. and_from (field (get_or s.narrow (lot_at l c) 0)) _ (small _ (omega (arith, z.narrow.small (lot_at l c))))
-      (and_from (field (get_or s.narrow (lot_at l c + 1) 0)) _ (small _ (omega (arith, z.narrow.small (lot_at l c + 1))))
-      (and_from (field (get_or s.wide (wide_lot_at l c) 0)) (field (get_or s.wide (wide_lot_at l c + 1) 0)) (small _ (z.wide.small (wide_lot_at l c))) (small _ (z.wide.small (wide_lot_at l c + 1))))))
-      (λ _. refl)
-
-  abbrev SmallProgress : Order → Type 0
-  SmallProgress x = (x.moved < 2 ^ 64) × (x.billed < 2 ^ 64)
-
-  order_small : (k : ℕ) → SmallProgress (order_record l k s.narrow)
-  unfolding order_record
-  order_small k =
-      cond_both (fits (order_at l k) 6 s.narrow) (order_kind.made (word [] 0) (word s.narrow (order_at l k))) order_kind.nothing SmallProgress
-      (λ _. (omega (arith, z.narrow.small (order_at l k + 4)), omega (arith, z.narrow.small (order_at l k + 5)))) (λ _. (omega arith, omega arith))
-
   orders_small : count_of Orders s.narrow < 2 ^ 64
   unfolding count_of
   orders_small = omega (arith, z.narrow.small 16)
@@ -89,7 +85,7 @@ module _ (l : Limits) (s : State) (z : Sized l s) where
   met_carried : (i : ℕ) → each lot_fits (lots_met l i s) ≡ true
   unfolding lots_met
   met_carried i =
-      walk_keeps (λ xs. each lot_fits xs ≡ true) (lots_step l s) (λ xs c p. each_push xs (lot_of (lot_record l c s)) p (lot_carried c)) (cells_in (lot_rows l) s.narrow i) [] none_carried
+      walk_keeps (λ xs. each lot_fits xs ≡ true) (lots_step l s) (λ xs c p. each_push xs (lot_of (lot_record l c s)) p (lot_carried (lot_record l c s) (lot_small l c s z))) (cells_in (lot_rows l) s.narrow i) [] none_carried
 
   lots_carried : Good l → (i : ℕ) → Carried (lots (lots_met l i s))
   lots_carried g i = and_from (field (length (lots_met l i s))) (each lot_fits (lots_met l i s)) (small _ (omega (arith, met_few l s i, g.lots))) (met_carried i)
@@ -98,13 +94,13 @@ module _ (l : Limits) (s : State) (z : Sized l s) where
   abbrev ToldCarried : Outcome → Type 0
   ToldCarried o = Carried o.answer
 
-  buys_carried : (i q p : ℕ) → ToldCarried (done l (calls.buys i q p) s)
-  buys_carried i q p =
-      cond_both (buys_fields l i q p) (cond (in_time s) (added s.wide (add_order l (new_order i q p) s.narrow)) (refuse 9 0 s)) (refuse 2 0 s) ToldCarried
-      (λ _. cond_both (in_time s) (added s.wide (add_order l (new_order i q p) s.narrow)) (refuse 9 0 s) ToldCarried
-      (λ _. cond_both (ltb i l.items) (cond (ltb (count_of Orders s.narrow) l.orders) (steps.after (Ok (count_of Orders s.narrow)) (order_placed l (new_order i q p) s.narrow)) (steps.after (Err Full) s.narrow)) (steps.after (Err NoSuchItem) s.narrow)
+  ordered_carried : (b : Bool) (i q p : ℕ) → ToldCarried (ordered l b i q p s)
+  ordered_carried b i q p =
+      cond_both (order_fields l i q p) (cond (in_time s) (added s.wide (add_order l (new_order b i q p) s.narrow)) (refuse 9 0 s)) (refuse 2 0 s) ToldCarried
+      (λ _. cond_both (in_time s) (added s.wide (add_order l (new_order b i q p) s.narrow)) (refuse 9 0 s) ToldCarried
+      (λ _. cond_both (ltb i l.items) (cond (ltb (count_of Orders s.narrow) l.orders) (steps.after (Ok (count_of Orders s.narrow)) (order_placed l (new_order b i q p) s.narrow)) (steps.after (Err Full) s.narrow)) (steps.after (Err NoSuchItem) s.narrow)
       (λ (a : After ℕ (List ℕ)). ToldCarried (added s.wide a))
-      (λ _. cond_both (ltb (count_of Orders s.narrow) l.orders) (steps.after (Ok (count_of Orders s.narrow)) (order_placed l (new_order i q p) s.narrow)) (steps.after (Err Full) s.narrow)
+      (λ _. cond_both (ltb (count_of Orders s.narrow) l.orders) (steps.after (Ok (count_of Orders s.narrow)) (order_placed l (new_order b i q p) s.narrow)) (steps.after (Err Full) s.narrow)
       (λ (a : After ℕ (List ℕ)). ToldCarried (added s.wide a)) (λ _. small _ orders_small) (λ _. refl))
       (λ _. refl))
       (λ _. refl))
@@ -143,13 +139,53 @@ module _ (l : Limits) (s : State) (z : Sized l s) where
       (λ _. refl))
       (λ _. refl)
 
+  -- goods that go: what was taken of memory whose order has moved, which is of words too
+  moved_small : (k q : ℕ) → (wanted k).moved + q ≤ (wanted k).pieces → Sized l (with_order l k (moved_more (wanted k) q) s)
+  moved_small k q le =
+      let o = order_small l k s z in
+      cond_both (ltb k (count_of Orders s.narrow)) (steps.after (Ok k) (put_order l k (moved_more (wanted k) q) s.narrow)) (steps.after (Err NoSuchOrder) s.narrow)
+      (λ (a : After ℕ (List ℕ)). Sized l (state s.wide a.left))
+      (λ _. sized_put_order l k (moved_more (wanted k) q) s (record { item = o.item; pieces = o.pieces; price = o.price; moved = omega (arith, le, o.pieces); billed = o.billed }) z)
+      (λ _. z)
+
+  abbrev cost : ℕ → ℕ → ℕ
+  cost k q = cost_of l (want (wanted k).item q) s
+
+  abbrev let_fit : ℕ → ℕ → Outcome
+  let_fit k q = cond (goes_fits l (cost k q) s) (let_go l (wanted k) q (cost k q) document (gone l k q s)) (refuse 9 0 s)
+
+  abbrev there : ℕ → ℕ → Outcome
+  there k q = cond (leb q (stock_of (wanted k).item s.wide).pieces) (let_fit k q) (refuse 7 1 s)
+
+  abbrev moving : ℕ → ℕ → Outcome
+  moving k q = cond (leb ((wanted k).moved + q) (wanted k).pieces) (there k q) (refuse 6 1 s)
+
+  abbrev to_sell : ℕ → ℕ → Outcome
+  to_sell k q = cond (wanted k).sells (moving k q) (refuse 5 0 s)
+
+  goes_carried : Good l → (k q : ℕ) → ToldCarried (done l (calls.goes k q) s)
+  goes_carried g k q =
+      cond_both (some_pieces q) (cond (ltb k (count_of Orders s.narrow)) (to_sell k q) (refuse 4 0 s)) (refuse 2 0 s) ToldCarried
+      (λ _. cond_both (ltb k (count_of Orders s.narrow)) (to_sell k q) (refuse 4 0 s) ToldCarried
+      (λ _. cond_both (wanted k).sells (moving k q) (refuse 5 0 s) ToldCarried
+      (λ _. cond_both (leb ((wanted k).moved + q) (wanted k).pieces) (there k q) (refuse 6 1 s) ToldCarried
+      (λ le. cond_both (leb q (stock_of (wanted k).item s.wide).pieces) (let_fit k q) (refuse 7 1 s) ToldCarried
+      (λ _. cond_both (goes_fits l (cost k q) s) (let_go l (wanted k) q (cost k q) document (gone l k q s)) (refuse 9 0 s) ToldCarried
+      (λ _. taken_carried l _ (with_order l k (moved_more (wanted k) q) s) g (moved_small k q (leb-true _ _ le)))
+      (λ _. refl))
+      (λ _. refl))
+      (λ _. refl))
+      (λ _. refl))
+      (λ _. refl))
+      (λ _. refl)
+
   -- EVERY ANSWER
   pub carried : Good l → (c : Call) → readable c ≡ true → Carried (done l c s).answer
   unfolding readable
-  carried g (calls.buys i q p) h = buys_carried i q p
-  carried g (calls.sells i q p) h = refl
+  carried g (calls.buys i q p) h = ordered_carried false i q p
+  carried g (calls.sells i q p) h = ordered_carried true i q p
   carried g (calls.comes o q) h = comes_carried o q
-  carried g (calls.goes o q) h = refl
+  carried g (calls.goes o q) h = goes_carried g o q
   carried g (calls.billed_by o q x) h = refl
   carried g (calls.bills o q) h = refl
   carried g (calls.pays_out x) h = refl
@@ -162,7 +198,7 @@ module _ (l : Limits) (s : State) (z : Sized l s) where
   carried g (calls.account a) h =
       cond_both (ltb a 9) (two (balance_of a s.wide).left (balance_of a s.wide).right) (refused 2 0) Carried (λ _. two_carried _ _ (balance_small l a s z).0 (balance_small l a s z).1) (λ _. refl)
   carried g (calls.order k) h =
-      cond_both (ltb k (count_of Orders s.narrow)) (two (order_record l k s.narrow).moved (order_record l k s.narrow).billed) (refused 4 0) Carried (λ _. two_carried _ _ (order_small k).0 (order_small k).1) (λ _. refl)
+      cond_both (ltb k (count_of Orders s.narrow)) (two (order_record l k s.narrow).moved (order_record l k s.narrow).billed) (refused 4 0) Carried (λ _. two_carried (order_record l k s.narrow).moved (order_record l k s.narrow).billed (omega (arith, (order_small l k s z).moved)) (omega (arith, (order_small l k s z).billed))) (λ _. refl)
   carried g (calls.lots_of i) h = cond_both (ltb i l.items) (lots (lots_met l i s)) (refused 2 0) Carried (λ _. lots_carried g i) (λ _. refl)
   carried g (calls.entries_from n k) h = refl
   carried g (calls.garbled n) h = and_from true (field n) refl h

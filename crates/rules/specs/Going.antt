@@ -1,0 +1,56 @@
+-- Goods that go on an order to sell, on any memory. Definitions only: nothing is assumed.
+use Rattle.std.specs.Prelude.{ℕ, ◌+◌, Bool, cond, ◌&&◌, [], ◌∷◌, nat_le, nat_lt}
+use Rattle.firm.specs.Calls.{lots}
+use Rattle.firm.specs.Refusals.{some_pieces}
+use Rattle.layout.specs.declared.head.Counter.TheVariants.{Orders}
+use Rattle.layout.specs.declared.head.Total.TheVariants.{Documents, Booked, Worth}
+use Rattle.layout.specs.declared.limits.Limits.{Limits}
+use Rattle.memory.specs.Books.{count_of, total_of, order_record, stock_of}
+use Rattle.records.specs.State.{State, state}
+use Rattle.records.specs.declared.order.Order.{Order}
+use Rattle.store.specs.Steps.{counted_out}
+use Rattle.taking.specs.Takes.{want, cost_of, Taking, take_all}
+use Rattle.rules.specs.Checks.{in_time, enters}
+use Rattle.rules.specs.Entering.{entered}
+use Rattle.rules.specs.Outcome.{Outcome, outcome, refuse}
+use Rattle.rules.specs.Receiving.{moved_more, with_order}
+use Rattle.rules.specs.Totals.{raised, lowered}
+
+-- the order moves, and its pieces are taken
+abbrev pub gone_of : Limits → ℕ → Order → ℕ → State → Taking
+gone_of l k o q s = take_all l (want o.item q ∷ []) (with_order l k (moved_more o q) s)
+
+-- so with the order of a number
+abbrev pub gone : Limits → ℕ → ℕ → State → Taking
+gone l k q s = gone_of l k (order_record l k s.narrow) q s
+
+-- what went cost x: all lots cost as much less, all entries come to as much more, and there is a document more
+abbrev pub summed_out : ℕ → State → State
+summed_out x s = state (raised Documents 1 (raised Booked x (lowered Worth x s.wide))) s.narrow
+
+-- on memory that has the pieces no more: they are counted out for their item, and their cost is entered on 6 and 0
+unfoldable pub issued : Limits → Order → ℕ → ℕ → ℕ → State → State
+issued l o q x d s =
+    summed_out x (entered l (record { left = 6; right = 0; amount = x; «document» = d }) (state (counted_out l o.item q x s.wide) s.narrow))
+
+abbrev pub goes_fits : Limits → ℕ → State → Bool
+goes_fits l x s = enters l x s && in_time s
+
+abbrev pub let_go : Limits → Order → ℕ → ℕ → ℕ → Taking → Outcome
+let_go l o q x d t = outcome (lots t.parts) (issued l o q x d t.slices)
+
+-- the cost is what taking would cost on what lies there before. The answer is what was taken of which lots
+abbrev pub goes : Limits → ℕ → ℕ → State → Outcome
+goes l k q s =
+    let o : Order = order_record l k s.narrow in
+    let x : ℕ = cost_of l (want o.item q) s in
+    let d : ℕ = total_of Documents s.wide in
+    cond (some_pieces q)
+    (cond (nat_lt k (count_of Orders s.narrow))
+    (cond o.sells
+    (cond (nat_le (o.moved + q) o.pieces)
+    (cond (nat_le q (stock_of o.item s.wide).pieces) (cond (goes_fits l x s) (let_go l o q x d (gone l k q s)) (refuse 9 0 s)) (refuse 7 1 s))
+    (refuse 6 1 s))
+    (refuse 5 0 s))
+    (refuse 4 0 s))
+    (refuse 2 0 s)

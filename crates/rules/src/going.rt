@@ -1,0 +1,109 @@
+//! Goods that go on an order to sell.
+
+ghost use Rattle.std.specs.Prelude.{◌≡◌, ◌+◌, ◌≤◌, MatchResult};
+ghost use Rattle.firm.specs.Calls.{lots};
+ghost use Rattle.layout.specs.declared.head.Total.TheVariants.{Documents};
+ghost use Rattle.memory.specs.Books.{total_of};
+ghost use Rattle.memory.specs.Lent.{seen, words, Same};
+ghost use Rattle.taking.specs.Takes.{tally, told};
+ghost use Rattle.rules.specs.Checks.{if};
+ghost use Rattle.rules.specs.Going.{gone_of, gone, issued, goes_fits, goes};
+ghost use Rattle.rules.specs.Outcome.{outcome, told_by};
+
+use crate::checks::{enters, known_order, moves, next_document, on_hand, some_pieces, to_sell};
+use crate::entering::enter;
+use crate::refused::Refused;
+use crate::totals::{lower, raise};
+use layout::Total;
+use memory::{Memory, View};
+use records::{Account, Entry, Order};
+use taking::{Taken, Want};
+use wire::Refusal;
+
+// The next document's number, if what goes at this cost is within the limits.
+fn fits(view: View<'_>, cost: u64) -> Option<u64>
+    ensures { result ≡ if (goes_fits view.entry.limits cost (seen view.entry)) (total_of Documents view.entry.wide.now) }
+{
+    if !enters(view, cost) {
+        return None;
+    }
+    next_document(view)
+}
+
+// The order moves, and its pieces are taken and told in the answer.
+fn take(memory: &mut Memory<'_>, number: u32, order: Order, pieces: u32, answer: &mut [u8]) -> Taken
+    requires { order.moved + pieces ≤ order.pieces }
+    ensures words { words memory.new ≡ (gone_of memory.old.limits number order pieces (words memory.old)).slices }
+    ensures same { Same memory.old memory.new }
+    ensures answer { tally answer.new result ≡ told (gone_of memory.old.limits number order pieces (words memory.old)).parts answer.old }
+{
+    let moved = Order {
+        moved: order.moved + pieces,
+        ..order
+    };
+    let _ = store::set_order(memory, number, moved);
+    let want = Want {
+        item: order.item,
+        pieces: u64::from(pieces),
+    };
+    taking::take_all(memory, &[want], answer)
+}
+
+// Enters what went, on memory that has it no more.
+#[tactic(auto, unfolding(crate::specs::Going::issued))]
+fn issued(memory: &mut Memory<'_>, order: Order, pieces: u32, cost: u64, document: u64)
+    ensures words { words memory.new ≡ issued memory.old.limits order pieces cost document (words memory.old) }
+    ensures same { Same memory.old memory.new }
+{
+    store::count_out(memory, order.item, u64::from(pieces), cost);
+    let entry = Entry {
+        left: Account::CostOfSales.into(),
+        right: Account::Stock.into(),
+        amount: cost,
+        document,
+    };
+    enter(memory, entry);
+    lower(memory, Total::Worth, cost);
+    raise(memory, Total::Booked, cost);
+    raise(memory, Total::Documents, 1);
+}
+
+/// So many pieces go of an order to sell: what was taken of which lots, which the answer tells, or why it is refused.
+pub fn goes(
+    memory: &mut Memory<'_>,
+    order: u64,
+    pieces: u64,
+    answer: &mut [u8],
+) -> Result<Taken, Refused>
+    ensures outcome { outcome (told_by (λ taken. lots (gone memory.old.limits order pieces (words memory.old)).parts) result) (words memory.new) ≡ goes memory.old.limits order pieces (words memory.old) }
+    ensures same { Same memory.old memory.new }
+    ensures answer { MatchResult result (λ taken. tally answer.new taken ≡ told (gone memory.old.limits order pieces (words memory.old)).parts answer.old) (λ refused. answer.new ≡ answer.old) }
+{
+    let Some(pieces) = some_pieces(pieces) else {
+        return Err(Refused::first(Refusal::BadField));
+    };
+    let Some(number) = known_order(memory.view(), order) else {
+        return Err(Refused::first(Refusal::NoSuchOrder));
+    };
+    let order = memory.view().order(number);
+    let Some(order) = to_sell(order) else {
+        return Err(Refused::first(Refusal::OtherKind));
+    };
+    let Some(_moved) = moves(order, pieces) else {
+        return Err(Refused::second(Refusal::TooMany));
+    };
+    let Some(_there) = on_hand(memory.view(), order.item, pieces) else {
+        return Err(Refused::second(Refusal::NotOnHand));
+    };
+    let want = Want {
+        item: order.item,
+        pieces: u64::from(pieces),
+    };
+    let cost = taking::cost_of(memory.view(), want);
+    let Some(document) = fits(memory.view(), cost) else {
+        return Err(Refused::first(Refusal::OverLimits));
+    };
+    let taken = take(memory, number, order, pieces, answer);
+    issued(memory, order, pieces, cost, document);
+    Ok(taken)
+}

@@ -1,0 +1,16 @@
+use Rattle.std.proofs.Common.{◌+◌, ◌*◌, ap, subst}
+use Rattle.firm.specs.Calls.{Answer}
+use Rattle.memory.specs.Lent.{words}
+use Rattle.rules.specs.Going.{gone}
+use Rattle.rules.specs.Outcome.{Outcome}
+use Rattle.taking.proofs.TakingLaws.{takes_few}
+use Rattle.session.specs.Calling.{Said}
+use Rattle.session.proofs.Telling.{lots_said}
+use Rattle.session.proofs.calling.say_goes.Goals as goal
+
+pub returns-in-Ok-clause-bytes : goal.returns-in-Ok-clause-bytes
+returns-in-Ok-clause-bytes c =
+    let l = c.args.memory.now.limits in
+    let ps = (gone l c.args.order c.args.pieces (words c.args.memory.now)).parts in
+    subst (λ (a : Answer). Said a (9 + 32 * c.in-Ok.taken.lines) c.args.out.now c.goes.new.answer) (ap (λ (o : Outcome). o.answer) c.in-Ok.ensures.outcome)
+    (lots_said l ps c.in-Ok.taken c.args.out.now c.goes.new.answer (takes_few l _ _) c.requires c.in-Ok.ensures.answer)
