@@ -2,7 +2,7 @@
 
 /// The calls that this stage can do.
 pub fn stage(number: u8) -> bool {
-    matches!(number, 0..=3 | 11..=14)
+    matches!(number, 0..=7 | 11..=15)
 }
 
 /// How many fields each call has; the recipe is a case of its own.

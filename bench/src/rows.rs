@@ -50,6 +50,13 @@ fn write(answer: &Answer, out: &mut [u8]) -> usize {
             }
             start + 32 * count
         }
+        Answer::Entries(entries) => {
+            let start = put(out, 4, [entries.len() as u64]);
+            for (e, line) in entries.iter().zip(out[start..].chunks_exact_mut(32)) {
+                put_fields(line, [u64::from(e.left), u64::from(e.right), e.amount, e.document]);
+            }
+            start + 32 * entries.len()
+        }
     }
 }
 

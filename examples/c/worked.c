@@ -78,7 +78,11 @@ int main(void) {
         {13, 1, {0}},         /* order 0 */
         {12, 1, {0}},         /* account 0 */
         {12, 1, {1}},         /* account 1 */
-        {6, 1, {10}},         /* pays out 10 */
+        {4, 3, {0, 50, 360}}, /* billed by 0 50 360 */
+        {6, 1, {361}},        /* pays out 361 */
+        {6, 1, {360}},        /* pays out 360 */
+        {12, 1, {2}},         /* account 2 */
+        {9, 2, {3, 21}},      /* makes 3 21 */
     };
     struct books b;
     if (opened(&b, limits, sizeof limits / sizeof *limits) != 0) {

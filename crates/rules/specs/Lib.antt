@@ -6,4 +6,6 @@ pub mod Ordering
 pub mod Entering
 pub mod Receiving
 pub mod Going
+pub mod Billing
+pub mod Paying
 pub mod Asking

@@ -5,17 +5,21 @@
 #![tactic(auto)]
 
 mod asking;
+mod billing;
 mod checks;
 mod entering;
 mod going;
 mod ordering;
+mod paying;
 mod receiving;
 mod refused;
 mod totals;
 
 pub use asking::{account, order, stock_of};
-pub use checks::known_item;
+pub use billing::{billed_by, bills};
+pub use checks::{known_item, some_entries};
 pub use going::goes;
 pub use ordering::{buys, sells};
+pub use paying::{pays_in, pays_out};
 pub use receiving::comes;
 pub use refused::Refused;

@@ -27,6 +27,9 @@ use Rattle.session.specs.Stage.{in_stage}
 use Rattle.session.proofs.Asking.{order_done, stock_done, lots_done, account_done, garbled_done, other_done}
 use Rattle.session.proofs.Ordering.{ordered_done}
 use Rattle.session.proofs.Going.{goes_done}
+use Rattle.session.proofs.Billing.{billed_by_done, bills_done}
+use Rattle.session.proofs.Listing.{entries_done}
+use Rattle.session.proofs.Paying.{pays_out_done, pays_in_done}
 use Rattle.session.proofs.Receiving.{comes_done}
 use Rattle.session.proofs.Small.{sized_opened}
 use Rattle.session.proofs.Turning.{Done}
@@ -42,10 +45,10 @@ module _ (l : Limits) (s : State) (f : Firm) (good : Good (limits_of l)) (cans :
   done_means (calls.sells i q p) = ordered_done l s f true i q p good cans r h
   done_means (calls.comes o q) = comes_done l s f o q good cans r h
   done_means (calls.goes o q) = goes_done l s f o q in_stage refl good cans r h
-  done_means (calls.billed_by o q x) = other_done l s f good cans r h (calls.billed_by o q x) refl refl
-  done_means (calls.bills o q) = other_done l s f good cans r h (calls.bills o q) refl refl
-  done_means (calls.pays_out x) = other_done l s f good cans r h (calls.pays_out x) refl refl
-  done_means (calls.pays_in x) = other_done l s f good cans r h (calls.pays_in x) refl refl
+  done_means (calls.billed_by o q x) = billed_by_done l s f o q x in_stage refl good cans r h
+  done_means (calls.bills o q) = bills_done l s f o q in_stage refl good cans r h
+  done_means (calls.pays_out x) = pays_out_done l s f x in_stage refl good cans r h
+  done_means (calls.pays_in x) = pays_in_done l s f x in_stage refl good cans r h
   done_means (calls.made_of i ps) = other_done l s f good cans r h (calls.made_of i ps) refl refl
   done_means (calls.makes i q) = other_done l s f good cans r h (calls.makes i q) refl refl
   done_means (calls.counted i q) = other_done l s f good cans r h (calls.counted i q) refl refl
@@ -53,7 +56,7 @@ module _ (l : Limits) (s : State) (f : Firm) (good : Good (limits_of l)) (cans :
   done_means (calls.account a) = account_done l s f good cans r h a
   done_means (calls.order o) = order_done l s f good cans r h o
   done_means (calls.lots_of i) = lots_done l s f good cans r h i
-  done_means (calls.entries_from n k) = other_done l s f good cans r h (calls.entries_from n k) refl refl
+  done_means (calls.entries_from n k) = entries_done l s f n k in_stage refl cans r h
   done_means (calls.garbled n) = garbled_done l s f good cans r h n
 
 -- OPENED MEMORY means a firm that has nothing
@@ -80,7 +83,7 @@ limits_there : (l : Limits) (s : State) (f : Firm) → Means (limits_of l) s f �
 limits_there l s f h =
     limits_same s.narrow (s.narrow ++ s.wide) (λ i lt. get_or_append_left s.narrow s.wide 0 i (omega (arith, h.sized.narrow.long))) ∙ h.stands.frame.limits
 
-split_back : (l : Limits) (s : State) (f : Firm) → Means (limits_of l) s f → state_of (memory_of s) ≡ s
+pub split_back : (l : Limits) (s : State) (f : Firm) → Means (limits_of l) s f → state_of (memory_of s) ≡ s
 split_back l s f h =
     ap (λ (k : memory.Limits). state (drop (narrow_need k) (s.narrow ++ s.wide)) (take (narrow_need k) (s.narrow ++ s.wide))) (limits_there l s f h)
     ∙ ap₂ state (drop_at s.narrow s.wide (narrow_need (limits_of l)) h.sized.narrow.long) (take_at s.narrow s.wide (narrow_need (limits_of l)) h.sized.narrow.long)

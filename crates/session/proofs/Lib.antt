@@ -8,9 +8,15 @@ pub mod Counting
 pub mod Entering
 pub mod Receiving
 pub mod Going
+pub mod Ordered
+pub mod Billed
+pub mod Billing
+pub mod Paying
 pub mod Telling
 pub mod Asking
+pub mod Listing
 pub mod Keeping
+pub mod Agreeing
 pub mod Called
 pub mod Framing
 pub mod Turns

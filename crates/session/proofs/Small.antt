@@ -9,7 +9,7 @@ use Rattle.layout.specs.declared.head.Counter.TheVariants.{Orders, Entries, Lots
 use Rattle.layout.specs.Layout.{Good, lot_rows, order_rows, entry_rows, wide_need, narrow_need, count_at, total_at, order_at, lot_at, wide_lot_at, entry_at, wide_entry_at, balance_at, stock_at}
 use Rattle.links.specs.Area.{place_at, tail_at, header_of, after_in, tail_in, inserted, removed, emptied, chained, filled}
 use Rattle.links.specs.declared.shape.Shape.{Shape}
-use Rattle.memory.specs.Books.{count_of, put_count, total_of, put_total, order_record, put_order, lot_record, put_lot, put_entry, balance_of, put_balance, stock_of, put_stock}
+use Rattle.memory.specs.Books.{count_of, put_count, total_of, put_total, order_record, put_order, lot_record, put_lot, entry_record, put_entry, balance_of, put_balance, stock_of, put_stock}
 use Rattle.memory.specs.Opened.{zeroed, with_limits, with_rows, opened}
 use Rattle.records.specs.Kind.{fits, word, over, Kind, lies, write, read_wide, write_wide}
 use Rattle.records.specs.Kinds.{lot_kind, order_kind, entry_kind, balance_kind, stock_kind}
@@ -256,6 +256,14 @@ sized_entry_placed l x s q few h =
     let u : State = state t.wide (pushed (entry_rows l) x.left (left_cell k) t.narrow) in
     sized_count l Entries (k + 1) (state t.wide (pushed (entry_rows l) x.right (right_cell k) u.narrow)) few
     (sized_pushed l (entry_rows l) x.right (right_cell k) u (omega arith) (sized_pushed l (entry_rows l) x.left (left_cell k) t (omega arith) (sized_put_entry l k x s q h)))
+
+-- what is read of an entry are words
+pub entry_small : (l : Limits) (k : ℕ) (s : State) → Sized l s → SmallEntry (entry_record l k s)
+unfolding entry_record
+entry_small l k s h =
+    cond_both (lies entry_kind (wide_entry_at l k) (entry_at l k) s) (entry_kind.made (word s.wide (wide_entry_at l k)) (word s.narrow (entry_at l k))) entry_kind.nothing SmallEntry
+    (λ _. record { left = h.narrow.small (entry_at l k); right = h.narrow.small (entry_at l k + 1); amount = h.wide.small (wide_entry_at l k); «document» = h.wide.small (wide_entry_at l k + 1) })
+    (λ _. record { left = omega arith; right = omega arith; amount = omega arith; «document» = omega arith })
 
 -- KEPT SUMS are words, and so is what they become
 pub stock_small : (l : Limits) (i : ℕ) (s : State) → Sized l s → ((stock_of i s.wide).pieces < 2 ^ 64) × ((stock_of i s.wide).worth < 2 ^ 64)

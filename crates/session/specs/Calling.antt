@@ -1,21 +1,27 @@
 -- What a call does on any memory, and what is left in the bytes for its answer. Definitions only: nothing is assumed.
 use Rattle.std.specs.Prelude.{◌≡◌, ℕ, ◌≤◌, Bool, true, false, cond, ◌&&◌, List, length, Some, None, Option, nat_le, nat_lt}
 use Rattle.fields.specs.Written.{over}
-use Rattle.firm.specs.Calls.{Call, buys, sells, comes, goes, billed_by, bills, pays_out, pays_in, made_of, makes, counted, stock_of, account, order, lots_of, entries_from, garbled, Answer, refused, lots}
+use Rattle.firm.specs.Calls.{Call, buys, sells, comes, goes, billed_by, bills, pays_out, pays_in, made_of, makes, counted, stock_of, account, order, lots_of, entries_from, garbled, Answer, refused, lots, entries}
 use Rattle.layout.specs.Layout.{is_good, wide_need, narrow_need, answer_need}
 use Rattle.layout.specs.declared.limits.Limits.{Limits}
 use Rattle.memory.specs.Books.{limits_in}
+use Rattle.questions.specs.Entries.{entries_met}
 use Rattle.questions.specs.Listing.{lots_met}
 use Rattle.records.specs.State.{State}
 use Rattle.rules.specs.Asking.{stock_told, account_told, order_told}
 use Rattle.rules.specs.Ordering.{ordered}
+use Rattle.rules.specs.Billing as billing
 use Rattle.rules.specs.Going as going
 use Rattle.rules.specs.Outcome.{Outcome, outcome, refuse}
+use Rattle.rules.specs.Paying as paying
 use Rattle.rules.specs.Receiving as receiving
 use Rattle.wire.specs.Answers.{bytes_of_answer}
 
 abbrev pub lots_told : Limits → ℕ → State → Answer
 lots_told l i s = cond (nat_lt i l.items) (lots (lots_met l i s)) (refused 2 0)
+
+abbrev pub entries_told : Limits → ℕ → ℕ → State → Answer
+entries_told l n k s = cond (nat_le k 256) (entries (entries_met l n k s)) (refused 2 0)
 
 -- THE STAGE: what is not done yet is turned away by 2
 abbrev pub done : Limits → Call → State → Outcome
@@ -23,10 +29,10 @@ done l (buys i q p) s = ordered l false i q p s
 done l (sells i q p) s = ordered l true i q p s
 done l (comes o q) s = receiving.comes l o q s
 done l (goes o q) s = going.goes l o q s
-done l (billed_by o q x) s = refuse 2 0 s
-done l (bills o q) s = refuse 2 0 s
-done l (pays_out x) s = refuse 2 0 s
-done l (pays_in x) s = refuse 2 0 s
+done l (billed_by o q x) s = billing.billed_by l o q x s
+done l (bills o q) s = billing.bills l o q s
+done l (pays_out x) s = paying.pays_out l x s
+done l (pays_in x) s = paying.pays_in l x s
 done l (made_of i ps) s = refuse 2 0 s
 done l (makes i q) s = refuse 2 0 s
 done l (counted i q) s = refuse 2 0 s
@@ -34,7 +40,7 @@ done l (stock_of i) s = outcome (stock_told l i s.wide) s
 done l (account a) s = outcome (account_told a s.wide) s
 done l (order o) s = outcome (order_told l o s.narrow) s
 done l (lots_of i) s = outcome (lots_told l i s) s
-done l (entries_from n k) s = refuse 2 0 s
+done l (entries_from n k) s = outcome (entries_told l n k s) s
 done l (garbled n) s = refuse 1 n s
 
 -- how many bytes were written; an answer that fits is written

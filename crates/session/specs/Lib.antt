@@ -7,3 +7,4 @@ pub mod Means
 pub mod Keeper
 pub mod Running
 pub mod Held
+pub mod Agreeing

@@ -4,7 +4,7 @@ ghost use Rattle.std.specs.Prelude.{◌≡◌, ◌≤◌, T, length, if◌then�
 ghost use Rattle.wire.specs.Calls.{call_of};
 ghost use Rattle.rules.specs.Going.{goes};
 ghost use Rattle.rules.specs.Outcome.{refusing};
-ghost use Rattle.session.specs.Calling.{Said, done, lots_told, holds, called_of, called, Fits};
+ghost use Rattle.session.specs.Calling.{Said, done, lots_told, entries_told, holds, called_of, called, Fits};
 ghost use Rattle.wire.specs.Said.{said as meant, are_parts};
 ghost use Rattle.wire.specs.Told.{refusal_number};
 ghost use Rattle.firm.specs.Calls.{refused};
@@ -26,6 +26,16 @@ fn say_lots(view: View<'_>, item: u64, out: &mut [u8]) -> usize
 {
     match rules::known_item(view.limits, item) {
         Some(item) => questions::write_lots(view, item, out).unwrap_or(0),
+        None => say(Refused::first(Refusal::BadField), out),
+    }
+}
+
+fn say_entries(view: View<'_>, first: u64, count: u64, out: &mut [u8]) -> usize
+    requires { answer_need view.limits ≤ length out.old }
+    ensures { Said (entries_told view.entry.limits first count (seen view.entry)) result out.old out.new }
+{
+    match rules::some_entries(count) {
+        Some(count) => questions::write_entries(view, first, count, out).unwrap_or(0),
         None => say(Refused::first(Refusal::BadField), out),
     }
 }
@@ -76,18 +86,19 @@ fn answer(memory: &mut Memory<'_>, call: Call<'_>, out: &mut [u8]) -> usize
         Call::Sells(item, pieces, price) => say(rules::sells(memory, item, pieces, price), out),
         Call::Comes(order, pieces) => say(rules::comes(memory, order, pieces), out),
         Call::Goes(order, pieces) => say_goes(memory, order, pieces, out),
+        Call::BilledBy(order, pieces, sum) => {
+            say(rules::billed_by(memory, order, pieces, sum), out)
+        }
+        Call::Bills(order, pieces) => say(rules::bills(memory, order, pieces), out),
+        Call::PaysOut(amount) => say(rules::pays_out(memory, amount), out),
+        Call::PaysIn(amount) => say(rules::pays_in(memory, amount), out),
         Call::StockOf(item) => say(rules::stock_of(memory.view(), item), out),
         Call::Account(account) => say(rules::account(memory.view(), account), out),
         Call::Order(order) => say(rules::order(memory.view(), order), out),
         Call::LotsOf(item) => say_lots(memory.view(), item, out),
+        Call::EntriesFrom(first, count) => say_entries(memory.view(), first, count, out),
         Call::MadeOf(_, parts) => say(Refused::first(recipe_refusal(parts)), out),
-        Call::BilledBy(_, _, _)
-        | Call::Bills(_, _)
-        | Call::PaysOut(_)
-        | Call::PaysIn(_)
-        | Call::Makes(_, _)
-        | Call::Counted(_, _)
-        | Call::EntriesFrom(_, _) => say(Refused::first(Refusal::BadField), out),
+        Call::Makes(_, _) | Call::Counted(_, _) => say(Refused::first(Refusal::BadField), out),
     }
 }
 

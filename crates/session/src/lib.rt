@@ -21,5 +21,7 @@ pub use error::RunError;
 pub use exports::{books_answer, books_call, books_narrow, books_open, books_wide};
 pub use held::Held;
 pub use opening::open;
-pub use promises::{answers_are_right, memory_suffices, refusals_keep};
+pub use promises::{
+    answers_are_right, entries_are_kept, ledger_agrees, memory_suffices, refusals_keep,
+};
 pub use running::run;

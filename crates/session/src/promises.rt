@@ -1,6 +1,7 @@
 //! The promises of the books, for every list of calls. The keeper is what the contracts of `open` and `call` say of memory.
 
 ghost use Rattle.firm.specs.Promise.{Right, RefusalKeeps, EnoughMemory};
+ghost use Rattle.session.specs.Agreeing.{LedgerAgrees, EntriesKept};
 ghost use Rattle.session.specs.Keeper.{keeper as booksKeeper, Standing, Sound};
 ghost use Rattle.session.specs.Stage.{in_stage};
 
@@ -39,3 +40,13 @@ pub fn memory_suffices()
 {
     firm::enough_memory_by_steps(&Stage);
 }
+
+/// For every list of calls the sums that are kept agree: with each other, with what the lots cost, and with the orders.
+pub fn ledger_agrees()
+    ensures { LedgerAgrees }
+{}
+
+/// What was entered stays as it is, whatever is called afterwards.
+pub fn entries_are_kept()
+    ensures { EntriesKept }
+{}

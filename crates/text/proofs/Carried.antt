@@ -1,10 +1,10 @@
 -- Every answer on memory of small words has numbers that its bytes can carry. Assumes nothing.
-use Rattle.std.proofs.Common.{◌≡◌, ℕ, ◌+◌, ◌*◌, ◌^◌, ◌<◌, ◌≤◌, Bool, true, false, cond, ltb, leb, List, [], ◌∷◌, ◌++◌, length, Ok, Err, Result, refl, arith}
+use Rattle.std.proofs.Common.{◌≡◌, ℕ, ◌+◌, ◌*◌, ◌^◌, ◌<◌, ◌≤◌, Bool, true, false, cond, ltb, leb, List, [], ◌∷◌, ◌++◌, length, Ok, Err, Result, refl, arith, mul-le-mul}
 use Rattle.std.proofs.lemmas.Bool.{cond_both, and_from, and_parts, leb-true, lt-ltb}
 use Rattle.firm.specs.Stock as stock
 use Rattle.firm.specs.Calls.{Call, Answer, refused, number, two, lots, field, readable}
 use Rattle.firm.specs.Calls as calls
-use Rattle.firm.specs.Refusals.{some_pieces}
+use Rattle.firm.specs.Refusals.{some_pieces, some_money}
 use Rattle.layout.specs.Layout.{Good, lot_rows}
 use Rattle.layout.specs.declared.head.Counter.TheVariants.{Orders}
 use Rattle.layout.specs.declared.head.Total.TheVariants.{Documents}
@@ -17,10 +17,13 @@ use Rattle.questions.proofs.Listed.{met_few}
 use Rattle.records.specs.State.{State, state}
 use Rattle.records.specs.declared.lot.Lot.{Lot}
 use Rattle.records.specs.declared.order.Order.{Order}
-use Rattle.rules.specs.Checks.{in_time}
+use Rattle.rules.specs.Billing.{bill_fits, bill_of, entries_of, amount_of, billed, charged}
+use Rattle.rules.specs.declared.billing.Bill.{Bill}
+use Rattle.rules.specs.Checks.{one, owed, in_time}
 use Rattle.rules.specs.Ordering.{new_order, order_fields, added, ordered}
-use Rattle.rules.specs.Outcome.{Outcome, refuse}
+use Rattle.rules.specs.Outcome.{Outcome, outcome, refuse}
 use Rattle.rules.specs.Going.{gone, goes_fits, let_go}
+use Rattle.rules.specs.Paying.{paid, pays_fits, pays}
 use Rattle.rules.specs.Receiving.{comes_fits, new_lot, placed, stored, moved_more, with_order}
 use Rattle.taking.specs.Parts.{part_of}
 use Rattle.taking.specs.Takes.{want, cost_of, take_all}
@@ -28,6 +31,7 @@ use Rattle.taking.specs.declared.wants.Want.{Want}
 use Rattle.taking.proofs.StepKeeping.{parts_pass}
 use Rattle.taking.proofs.TakingLaws.{takes_few}
 use Rattle.session.specs.Calling.{done}
+use Rattle.text.proofs.EntriesCarried.{entries_carried}
 use Rattle.session.specs.Means.{Sized}
 use Rattle.session.proofs.Small.{SmallLot, balance_small, stock_small, order_small, lot_small, part_small, sized_put_order, steps_sized}
 use Rattle.store.specs.Steps.{After, add_order, add_lot, order_placed}
@@ -179,6 +183,84 @@ module _ (l : Limits) (s : State) (z : Sized l s) where
       (λ _. refl))
       (λ _. refl)
 
+  -- payments
+  pays_carried : (a b x : ℕ) → ToldCarried (pays l a b x s)
+  pays_carried a b x = cond_both (pays_fits l x s) (outcome (number document) (paid l a b x document s)) (refuse 9 0 s) ToldCarried (λ _. small _ documents_small) (λ _. refl)
+
+  pays_out_carried : (x : ℕ) → ToldCarried (done l (calls.pays_out x) s)
+  pays_out_carried x =
+      cond_both (some_money x) (cond (owed x s.wide) (pays l 2 4 x s) (refuse 6 0 s)) (refuse 2 0 s) ToldCarried
+      (λ _. cond_both (owed x s.wide) (pays l 2 4 x s) (refuse 6 0 s) ToldCarried (λ _. pays_carried 2 4 x) (λ _. refl))
+      (λ _. refl)
+
+  pays_in_carried : (x : ℕ) → ToldCarried (done l (calls.pays_in x) s)
+  pays_in_carried x = cond_both (some_money x) (pays l 4 3 x s) (refuse 2 0 s) ToldCarried (λ _. pays_carried 4 3 x) (λ _. refl)
+
+  -- bills
+  billed_by_carried : (k q x : ℕ) → ToldCarried (done l (calls.billed_by k q x) s)
+  billed_by_carried k q x =
+      cond_both (some_pieces q) (cond (leb x 1000000000000) (known k q x) (refuse 2 0 s)) (refuse 2 0 s) ToldCarried
+      (λ _. cond_both (leb x 1000000000000) (known k q x) (refuse 2 0 s) ToldCarried
+      (λ _. cond_both (ltb k (count_of Orders s.narrow)) (of_kind k q x) (refuse 4 0 s) ToldCarried
+      (λ _. cond_both (wanted k).sells (refuse 5 0 s) (enough k q x) ToldCarried
+      (λ _. refl)
+      (λ _. cond_both (leb ((wanted k).billed + q) (wanted k).moved) (bill k q x) (refuse 6 1 s) ToldCarried
+      (λ _. cond_both (bill_fits l (entries_of (asked k q x)) (amount_of (asked k q x)) s) (outcome (number document) (billed l k (wanted k) q (asked k q x) document s)) (refuse 9 0 s) ToldCarried
+      (λ _. small _ documents_small)
+      (λ _. refl))
+      (λ _. refl)))
+      (λ _. refl))
+      (λ _. refl))
+      (λ _. refl)
+    where
+      asked : ℕ → ℕ → ℕ → Bill
+      asked k q x = bill_of (q * (wanted k).price) x
+
+      bill : ℕ → ℕ → ℕ → Outcome
+      bill k q x = cond (bill_fits l (entries_of (asked k q x)) (amount_of (asked k q x)) s) (outcome (number document) (billed l k (wanted k) q (asked k q x) document s)) (refuse 9 0 s)
+
+      enough : ℕ → ℕ → ℕ → Outcome
+      enough k q x = cond (leb ((wanted k).billed + q) (wanted k).moved) (bill k q x) (refuse 6 1 s)
+
+      of_kind : ℕ → ℕ → ℕ → Outcome
+      of_kind k q x = cond (wanted k).sells (refuse 5 0 s) (enough k q x)
+
+      known : ℕ → ℕ → ℕ → Outcome
+      known k q x = cond (ltb k (count_of Orders s.narrow)) (of_kind k q x) (refuse 4 0 s)
+
+  bills_carried : (k q : ℕ) → ToldCarried (done l (calls.bills k q) s)
+  bills_carried k q =
+      cond_both (some_pieces q) (cond (ltb k (count_of Orders s.narrow)) (of_kind k q) (refuse 4 0 s)) (refuse 2 0 s) ToldCarried
+      (λ g. cond_both (ltb k (count_of Orders s.narrow)) (of_kind k q) (refuse 4 0 s) ToldCarried
+      (λ _. cond_both (wanted k).sells (enough k q) (refuse 5 0 s) ToldCarried
+      (λ _. cond_both (leb ((wanted k).billed + q) (wanted k).moved) (charge k q) (refuse 6 1 s) ToldCarried
+      (λ _. cond_both (bill_fits l (one (price k q)) (price k q) s) (outcome (number (price k q)) (charged l k (wanted k) q (price k q) document s)) (refuse 9 0 s) ToldCarried
+      (λ _. small _ (price_small g))
+      (λ _. refl))
+      (λ _. refl))
+      (λ _. refl))
+      (λ _. refl))
+      (λ _. refl)
+    where
+      price : ℕ → ℕ → ℕ
+      price k q = q * (wanted k).price
+
+      -- no more than a million pieces, at a price that is a word of 32 bits
+      price_small : some_pieces q ≡ true → price k q < 2 ^ 64
+      price_small g =
+          let few : q ≤ 1000000 = leb-true q 1000000 (and_parts (leb 1 q) (leb q 1000000) g).1 in
+          let dear : (wanted k).price ≤ 4294967296 = omega (arith, (order_small l k s z).price) in
+          omega (arith, mul-le-mul few dear)
+
+      charge : ℕ → ℕ → Outcome
+      charge k q = cond (bill_fits l (one (price k q)) (price k q) s) (outcome (number (price k q)) (charged l k (wanted k) q (price k q) document s)) (refuse 9 0 s)
+
+      enough : ℕ → ℕ → Outcome
+      enough k q = cond (leb ((wanted k).billed + q) (wanted k).moved) (charge k q) (refuse 6 1 s)
+
+      of_kind : ℕ → ℕ → Outcome
+      of_kind k q = cond (wanted k).sells (enough k q) (refuse 5 0 s)
+
   -- EVERY ANSWER
   pub carried : Good l → (c : Call) → readable c ≡ true → Carried (done l c s).answer
   unfolding readable
@@ -186,10 +268,10 @@ module _ (l : Limits) (s : State) (z : Sized l s) where
   carried g (calls.sells i q p) h = ordered_carried true i q p
   carried g (calls.comes o q) h = comes_carried o q
   carried g (calls.goes o q) h = goes_carried g o q
-  carried g (calls.billed_by o q x) h = refl
-  carried g (calls.bills o q) h = refl
-  carried g (calls.pays_out x) h = refl
-  carried g (calls.pays_in x) h = refl
+  carried g (calls.billed_by o q x) h = billed_by_carried o q x
+  carried g (calls.bills o q) h = bills_carried o q
+  carried g (calls.pays_out x) h = pays_out_carried x
+  carried g (calls.pays_in x) h = pays_in_carried x
   carried g (calls.made_of i ps) h = refl
   carried g (calls.makes i q) h = refl
   carried g (calls.counted i q) h = refl
@@ -200,5 +282,5 @@ module _ (l : Limits) (s : State) (z : Sized l s) where
   carried g (calls.order k) h =
       cond_both (ltb k (count_of Orders s.narrow)) (two (order_record l k s.narrow).moved (order_record l k s.narrow).billed) (refused 4 0) Carried (λ _. two_carried (order_record l k s.narrow).moved (order_record l k s.narrow).billed (omega (arith, (order_small l k s z).moved)) (omega (arith, (order_small l k s z).billed))) (λ _. refl)
   carried g (calls.lots_of i) h = cond_both (ltb i l.items) (lots (lots_met l i s)) (refused 2 0) Carried (λ _. lots_carried g i) (λ _. refl)
-  carried g (calls.entries_from n k) h = refl
+  carried g (calls.entries_from n k) h = entries_carried l s z n k
   carried g (calls.garbled n) h = and_from true (field n) refl h

@@ -1,4 +1,5 @@
 mod Splitting
+mod EntriesCarried
 mod Carried
 mod Sent
 mod Lined
