@@ -22,6 +22,14 @@ pub fn put(out: &mut Vec<u8>, answer: &Answer) {
                 put_numbers(out, &[*item, u64::from(lot.pieces), lot.cost, lot.document]);
             }
         }
+        Answer::WentIn(lots) => {
+            for (k, (item, lot)) in lots.iter().enumerate() {
+                if k > 0 {
+                    out.extend_from_slice(b", ");
+                }
+                put_numbers(out, &[*item, u64::from(lot.pieces), lot.cost, lot.document]);
+            }
+        }
         Answer::Entries([]) => out.extend_from_slice(b"none"),
         Answer::Entries(entries) => {
             for (k, e) in entries.iter().enumerate() {

@@ -1,6 +1,7 @@
 //! Calls as lines of text.
 
 use crate::numbers::{FIELDS, RECIPE};
+use crate::plain::Part;
 use crate::words::Words;
 
 const MOST_PARTS: usize = 255;
@@ -14,19 +15,25 @@ pub fn heard(text: &[u8]) -> impl Iterator<Item = &[u8]> {
     })
 }
 
-/// The number and the fields of the call that a line is, or where it ceases to be one. Of a recipe no field is kept.
-pub fn read(line: &[u8]) -> Result<(u8, [u64; 3]), usize> {
+/// The call that a line is: its number and fields, or a recipe.
+pub enum Call {
+    Short(u8, [u64; 3]),
+    Recipe(u64, Vec<Part>),
+}
+
+/// The call that a line is, or where it ceases to be one.
+pub fn read(line: &[u8]) -> Result<Call, usize> {
     let mut words = Words::new(line);
     let number = opening(&mut words)?;
     let mut fields = [0; 3];
     if number == RECIPE {
-        recipe(&mut words)?;
+        return recipe(&mut words);
     }
     for field in &mut fields[..FIELDS[usize::from(number)]] {
         *field = words.number()?;
     }
     words.end()?;
-    Ok((number, fields))
+    Ok(Call::Short(number, fields))
 }
 
 // The number of the call that a line begins.
@@ -66,9 +73,10 @@ fn paying(words: &mut Words) -> Result<u8, usize> {
 }
 
 // `3: item 0, 3 each, item 1, 2 each`, up to the line's end.
-fn recipe(words: &mut Words) -> Result<(), usize> {
-    words.number()?;
+fn recipe(words: &mut Words) -> Result<Call, usize> {
+    let made = words.number()?;
     words.mark(b':')?;
+    let mut parts = Vec::new();
     for part in 0..MOST_PARTS {
         if words.end().is_ok() {
             break;
@@ -77,10 +85,12 @@ fn recipe(words: &mut Words) -> Result<(), usize> {
             words.mark(b',')?;
         }
         words.keyword(b"item")?;
-        words.number()?;
+        let item = words.number()?;
         words.mark(b',')?;
-        words.number()?;
+        let each = words.number()?;
         words.keyword(b"each")?;
+        parts.push(Part { item, each });
     }
-    Ok(())
+    words.end()?;
+    Ok(Call::Recipe(made, parts))
 }

@@ -9,7 +9,9 @@ use bench::numbers::stage;
 use bench::plain::Plain;
 use bench::rows;
 
-const LISTS: u64 = 60;
+// Lists of each shape: small books many times, large ones less often.
+const SMALL_LISTS: u64 = 2_500;
+const LARGE_LISTS: u64 = 60;
 
 // The engine, and its memory as it was before a call.
 struct Watched {
@@ -47,14 +49,40 @@ fn check_plain(plain: &mut Plain, row: &[u8], wanted: &[u8], answer: &mut [u8]) 
     if got == wanted { Ok(()) } else { Err(format!("plain Rust answers {got:?}")) }
 }
 
-// One list of calls; says how many were refused.
-fn compare_list(seed: u64, limits: &Limits) -> Result<usize, String> {
+// How often a call of each kind was taken, and how often one was refused by each number.
+#[derive(Default)]
+struct Seen {
+    taken: [u64; 16],
+    refused: [u64; 10],
+}
+
+impl Seen {
+    fn note(&mut self, row: &[u8], answer: &Answer) {
+        match answer {
+            Answer::Refused(by, _) => self.refused[*by as usize] += 1,
+            _ => self.taken[usize::from(row[0])] += 1,
+        }
+    }
+
+    // Whether every kind of call was taken, and one refused by every number that a call can be refused by.
+    fn check(&self) -> Result<(), String> {
+        if let Some(kind) = self.taken.iter().position(|n| *n == 0) {
+            return Err(format!("no call {kind} was taken"));
+        }
+        match [1, 2, 4, 5, 6, 7, 8, 9].iter().find(|by| self.refused[**by] == 0) {
+            Some(by) => Err(format!("no call was refused by {by}")),
+            None => Ok(()),
+        }
+    }
+}
+
+// One list of calls.
+fn compare_list(seed: u64, limits: &Limits, seen: &mut Seen) -> Result<(), String> {
     let mut engine = Watched::new(limits);
     let mut chance = Chance::new(seed);
     let mut model = Model::new(limits.clone(), stage);
     let mut plain = Plain::new(limits.clone(), stage);
     let mut answer = vec![0; limits.answer()];
-    let mut all_refused = 0;
     for k in 0..many(limits) {
         let row = any_call(&mut chance, limits, model.orders(), stage);
         let wanted = model.call(&read(&row));
@@ -63,9 +91,9 @@ fn compare_list(seed: u64, limits: &Limits) -> Result<usize, String> {
         let place = |e| format!("seed {seed}, call {k} {row:?}, wanted {wanted:?}: {e}");
         engine.check(&row, &bytes, refused).map_err(place)?;
         check_plain(&mut plain, &row, &bytes, &mut answer).map_err(place)?;
-        all_refused += usize::from(refused);
+        seen.note(&row, &wanted);
     }
-    Ok(all_refused)
+    Ok(())
 }
 
 fn many(limits: &Limits) -> usize {
@@ -74,21 +102,23 @@ fn many(limits: &Limits) -> usize {
 
 pub fn compare() -> Result<(), String> {
     let shapes = [
-        limits(0, 0, 0, 0, 0),
-        limits(1, 1, 1, 1, 1),
-        limits(4, 20, 30, 12, 15),
-        limits(12, 300, 400, 60, 500),
-        limits(32, 64, 128, 32, 256),
-        limits(40, 2000, 2500, 60, 3000),
+        (limits(0, 0, 0, 0, 0), SMALL_LISTS),
+        (limits(1, 1, 1, 1, 1), SMALL_LISTS),
+        (limits(4, 20, 30, 12, 15), SMALL_LISTS),
+        (limits(32, 64, 128, 32, 256), SMALL_LISTS),
+        (limits(12, 300, 400, 60, 500), LARGE_LISTS),
+        (limits(40, 2000, 2500, 60, 3000), LARGE_LISTS),
     ];
-    let (mut all, mut refused) = (0, 0);
-    for seed in 1..=LISTS {
-        for shape in &shapes {
-            refused += compare_list(seed, shape)?;
-            all += many(shape);
+    let mut seen = Seen::default();
+    for (shape, lists) in &shapes {
+        for seed in 1..=*lists {
+            compare_list(seed, shape, &mut seen)?;
         }
     }
-    let lists = LISTS as usize * shapes.len();
-    println!("compare: {all} calls in {lists} lists answered alike, {refused} of them refused");
+    seen.check()?;
+    let lists: u64 = shapes.iter().map(|(_, lists)| lists).sum();
+    let (taken, refused): (u64, u64) = (seen.taken.iter().sum(), seen.refused.iter().sum());
+    println!("compare: {} calls in {lists} lists answered alike, {refused} of them refused", taken + refused);
+    println!("compare: taken of each kind, from 0 on: {:?}", seen.taken);
     Ok(())
 }

@@ -43,6 +43,23 @@ impl Chance {
             _ => 1 + self.below(most),
         }
     }
+
+    // Mostly below n; now and then at the most that a field can be, or next to it.
+    fn up_to(&mut self, n: u64, most: u64) -> u64 {
+        match self.below(24) {
+            0 => most - 1 + self.below(3),
+            1 => self.next(),
+            _ => self.below(n),
+        }
+    }
+}
+
+// Mostly a few parts; now and then as many as a recipe can have, or one more.
+fn recipe(c: &mut Chance, item: u64) -> Call {
+    let many = if c.one_in(12) { 15 + c.below(3) } else { c.below(4) };
+    let parts =
+        (0..many).map(|_| (c.below(4), if c.one_in(24) { c.up_to(2, 1_000) } else { 1 + c.below(3) }));
+    Call::Recipe(item, parts.collect())
 }
 
 /// A row of bytes: mostly a call that the stage can do, now and then another one or a damaged one.
@@ -65,19 +82,20 @@ fn call_row(c: &mut Chance, limits: &Limits, orders: u64) -> Vec<u8> {
         4..=9 => Call::Plain(2, vec![order(c), c.pieces(60)]),
         10 | 11 => Call::Plain(3, vec![order(c), c.pieces(60)]),
         12 => {
-            let sum = c.below(20_000);
+            let sum = c.up_to(20_000, 1_000_000_000_000);
             Call::Plain(4, vec![order(c), c.pieces(30), sum])
         }
         13 => Call::Plain(5, vec![order(c), c.pieces(30)]),
         14 => {
-            let amount = c.below(5_000);
+            let amount = c.up_to(5_000, 1_000_000_000_000);
             Call::Plain(6 + c.below(2) as u8, vec![amount])
         }
         15 => {
-            let parts = (0..c.below(4)).map(|_| (c.below(4), 1 + c.below(3))).collect();
-            Call::Recipe(item(c), parts)
+            let item = item(c);
+            recipe(c, item)
         }
-        16 => Call::Plain(9 + c.below(2) as u8, vec![item(c), c.pieces(20)]),
+        16 if c.one_in(2) => Call::Plain(9, vec![item(c), c.pieces(20)]),
+        16 => Call::Plain(10, vec![item(c), c.up_to(40, 1_000_000_000)]),
         17 => Call::Plain(11, vec![item(c)]),
         18 => Call::Plain(12, vec![c.about(9)]),
         19 => Call::Plain(13, vec![order(c)]),

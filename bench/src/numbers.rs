@@ -1,8 +1,8 @@
-//! The numbers of calls: which of them this stage can do, and how many fields each has.
+//! The numbers of calls: which of them can be done, and how many fields each has.
 
-/// The calls that this stage can do.
+/// The calls that can be done: all of them.
 pub fn stage(number: u8) -> bool {
-    matches!(number, 0..=7 | 11..=15)
+    number < 16
 }
 
 /// How many fields each call has; the recipe is a case of its own.

@@ -1,11 +1,12 @@
 //! Calls and answers of the plain books as bytes.
 
 use crate::numbers::{FIELDS, RECIPE};
-use crate::plain::{Answer, Plain};
+use crate::plain::{Answer, Part, Plain};
 
 /// Does the call that a row of bytes is, and writes its answer; gives the answer's length.
 pub fn answer(books: &mut Plain, row: &[u8], out: &mut [u8]) -> usize {
     match read(row) {
+        Ok((RECIPE, _)) => write(&books.made_of(field(row, 1), &parts(row)), out),
         Ok((number, fields)) => write(&books.call(number, fields), out),
         Err(place) => write(&Answer::Refused(1, place), out),
     }
@@ -15,7 +16,7 @@ fn field(row: &[u8], at: usize) -> u64 {
     u64::from_le_bytes(row[at..at + 8].try_into().unwrap())
 }
 
-// The number and the fields of a call, or where the row ceases to be one. Of a recipe no field is kept.
+// The number and the fields of a call, or where the row ceases to be one. A recipe has none: see `parts`.
 fn read(row: &[u8]) -> Result<(u8, [u64; 3]), u64> {
     let number = *row.first().ok_or(0u64)?;
     let count = *FIELDS.get(usize::from(number)).ok_or(0u64)?;
@@ -37,6 +38,11 @@ fn recipe_size(row: &[u8]) -> usize {
     row.get(9).map_or(10, |count| 10 + 16 * usize::from(*count))
 }
 
+// The parts of a row that is a recipe.
+fn parts(row: &[u8]) -> Vec<Part> {
+    row[10..].chunks_exact(16).map(|part| Part { item: field(part, 0), each: field(part, 8) }).collect()
+}
+
 fn write(answer: &Answer, out: &mut [u8]) -> usize {
     match answer {
         Answer::Refused(by, place) => put(out, 0, [*by, *place]),
@@ -49,6 +55,13 @@ fn write(answer: &Answer, out: &mut [u8]) -> usize {
                 put_fields(line, [*item, u64::from(lot.pieces), lot.cost, lot.document]);
             }
             start + 32 * count
+        }
+        Answer::WentIn(lots) => {
+            let start = put(out, 3, [lots.len() as u64]);
+            for ((item, lot), line) in lots.iter().zip(out[start..].chunks_exact_mut(32)) {
+                put_fields(line, [*item, u64::from(lot.pieces), lot.cost, lot.document]);
+            }
+            start + 32 * lots.len()
         }
         Answer::Entries(entries) => {
             let start = put(out, 4, [entries.len() as u64]);

@@ -1,10 +1,11 @@
 //! `plain_books [--items N] [--orders N] [--lots N] [--parts N] [--entries N] [FILE]`: what the program `books` does, in plain
 //! Rust. Answers the calls of a file, or of standard input, a line each.
 
+use bench::answer_lines;
+use bench::call_lines::{self, Call};
 use bench::limits::{FULL, Limits, limits};
 use bench::numbers::stage;
 use bench::plain::{Answer, Plain};
-use bench::{answer_lines, call_lines};
 use std::io::{Read, Write};
 
 struct Request {
@@ -51,7 +52,8 @@ fn run(limits: Limits, text: &[u8]) -> Vec<u8> {
     let mut out = Vec::new();
     for line in call_lines::heard(text) {
         let answer = match call_lines::read(line) {
-            Ok((number, fields)) => books.call(number, fields),
+            Ok(Call::Short(number, fields)) => books.call(number, fields),
+            Ok(Call::Recipe(item, parts)) => books.made_of(item, &parts),
             Err(place) => Answer::Refused(1, place as u64),
         };
         answer_lines::put(&mut out, &answer);

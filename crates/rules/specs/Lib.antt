@@ -6,6 +6,9 @@ pub mod Ordering
 pub mod Entering
 pub mod Receiving
 pub mod Going
+pub mod Counting
+pub mod Making
 pub mod Billing
 pub mod Paying
 pub mod Asking
+pub mod Recipes

@@ -20,8 +20,8 @@ use records::{Account, Entry, Order};
 use taking::{Taken, Want};
 use wire::Refusal;
 
-// The next document's number, if what goes at this cost is within the limits.
-fn fits(view: View<'_>, cost: u64) -> Option<u64>
+/// The next document's number, if what goes at this cost is within the limits.
+pub fn fits(view: View<'_>, cost: u64) -> Option<u64>
     ensures { result ≡ if (goes_fits view.entry.limits cost (seen view.entry)) (total_of Documents view.entry.wide.now) }
 {
     if !enters(view, cost) {

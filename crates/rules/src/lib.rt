@@ -7,19 +7,25 @@
 mod asking;
 mod billing;
 mod checks;
+mod counting;
 mod entering;
 mod going;
+mod making;
 mod ordering;
 mod paying;
 mod receiving;
+mod recipes;
 mod refused;
 mod totals;
 
 pub use asking::{account, order, stock_of};
 pub use billing::{billed_by, bills};
 pub use checks::{known_item, some_entries};
+pub use counting::counted;
 pub use going::goes;
+pub use making::makes;
 pub use ordering::{buys, sells};
 pub use paying::{pays_in, pays_out};
 pub use receiving::comes;
+pub use recipes::made_of;
 pub use refused::Refused;

@@ -21,7 +21,7 @@ use Rattle.records.specs.Kinds.{order_kind, entry_kind}
 use Rattle.records.specs.State.{State}
 use Rattle.store.specs.View.{Table}
 use Rattle.session.specs.Agreeing.{orders_in, entries_in, Agrees, memory_after, LedgerAgrees, EntriesKept}
-use Rattle.session.specs.Keeper.{keeper, state_of, Standing, for_stage}
+use Rattle.session.specs.Keeper.{keeper, state_of, Standing, for_all_calls}
 use Rattle.session.specs.Means.{limits_of, order_of, entry_of, Means}
 use Rattle.session.proofs.Keeping.{all_steps, split_back}
 
@@ -91,14 +91,14 @@ agrees l m f g e =
     })
 
 -- the books after some calls
-after_calls : (l : Limits) (cs : List Call) → GoodLimits l → all_readable cs ≡ true → Standing (for_stage l) (left_by keeper (keeper.opened l) cs) (ran (for_stage l) new_firm cs)
+after_calls : (l : Limits) (cs : List Call) → GoodLimits l → all_readable cs ≡ true → Standing (for_all_calls l) (left_by keeper (keeper.opened l) cs) (ran (for_all_calls l) new_firm cs)
 after_calls l cs g h =
-    let s = all_steps (for_stage l) g refl in
-    left_right keeper (for_stage l) (Standing (for_stage l)) s cs (keeper.opened l) new_firm h s.opens
+    let s = all_steps (for_all_calls l) g refl in
+    left_right keeper (for_all_calls l) (Standing (for_all_calls l)) s cs (keeper.opened l) new_firm h s.opens
 
 pub ledger_agrees : LedgerAgrees
 unfolding LedgerAgrees
-ledger_agrees l cs g h = agrees (for_stage l) (left_by keeper (keeper.opened l) cs) (ran (for_stage l) new_firm cs) g (after_calls l cs g h)
+ledger_agrees l cs g h = agrees (for_all_calls l) (left_by keeper (keeper.opened l) cs) (ran (for_all_calls l) new_firm cs) g (after_calls l cs g h)
 
 -- ENTRIES of what some calls leave, after further ones
 readable_before : (cs ds : List Call) → all_readable (cs ++ ds) ≡ true → all_readable cs ≡ true
@@ -121,19 +121,19 @@ unfolding ran
 ran_on l f [] ds = refl
 ran_on l f (c ∷ cs) ds = ran_on l (after l f c) cs ds
 
-entries_there : (l : Limits) (cs : List Call) → GoodLimits l → all_readable cs ≡ true → entries_in (limits_of l) (memory_after l cs) ≡ (ran (for_stage l) new_firm cs).entries
+entries_there : (l : Limits) (cs : List Call) → GoodLimits l → all_readable cs ≡ true → entries_in (limits_of l) (memory_after l cs) ≡ (ran (for_all_calls l) new_firm cs).entries
 entries_there l cs g h =
     let e = after_calls l cs g h in
     ap (λ (m : Memory). entries_in (limits_of l) (state_of m)) e.words
-    ∙ ap (entries_in (limits_of l)) (split_back (for_stage l) e.slices (ran (for_stage l) new_firm cs) e.means)
-    ∙ entries_are (for_stage l) e.slices (ran (for_stage l) new_firm cs) e.means
+    ∙ ap (entries_in (limits_of l)) (split_back (for_all_calls l) e.slices (ran (for_all_calls l) new_firm cs) e.means)
+    ∙ entries_are (for_all_calls l) e.slices (ran (for_all_calls l) new_firm cs) e.means
 
 pub entries_kept : EntriesKept
 unfolding EntriesKept
 entries_kept l cs ds g h =
-    let f = ran (for_stage l) new_firm cs in
-    let more = more_entries (for_stage l) f ds in (
+    let f = ran (for_all_calls l) new_firm cs in
+    let more = more_entries (for_all_calls l) f ds in (
       more.0,
-      entries_there l (cs ++ ds) g h ∙ ap (λ (x : Firm). x.entries) (ran_on (for_stage l) new_firm cs ds) ∙ more.1
+      entries_there l (cs ++ ds) g h ∙ ap (λ (x : Firm). x.entries) (ran_on (for_all_calls l) new_firm cs ds) ∙ more.1
           ∙ ap (λ (es : List ledger.Entry). es ++ more.0) (sym (entries_there l cs g (readable_before cs ds h))),
     )

@@ -1,5 +1,5 @@
 -- Questions, what is no call, and what the stage does not do. Assumes nothing.
-use Rattle.std.proofs.Common.{◌≡◌, ℕ, ◌<◌, Bool, true, false, ◌&&◌, ◌||◌, eqb, ltb, List, [], length, get_or, sym, refl, ap, ◌∙◌, subst, arith}
+use Rattle.std.proofs.Common.{◌≡◌, ℕ, ◌<◌, Bool, true, ◌&&◌, ◌||◌, eqb, ltb, List, [], length, get_or, sym, refl, ap, ◌∙◌, subst, arith}
 use Rattle.std.proofs.lemmas.List.{length-map, get_or-map}
 use Rattle.std.proofs.lemmas.Bool.{cond_both, ltb-true}
 use Rattle.firm.specs.Stock.{pick, of_item}
@@ -30,11 +30,11 @@ use Rattle.rules.specs.Outcome.{outcome, refuse}
 use Rattle.store.specs.View.{Kept}
 use Rattle.session.specs.Calling.{lots_told}
 use Rattle.session.specs.Means.{Means, order_of, stock_sums, account_sums, limits_of}
-use Rattle.session.specs.Stage.{in_stage}
+use Rattle.firm.specs.Promise.{whole}
 use Rattle.session.proofs.Counting.{lots_along, lots_there}
 use Rattle.session.proofs.Turning.{Done, refuses, goes}
 
-module _ (l : Limits) (s : State) (f : Firm) (good : Good (limits_of l)) (cans : l.calls_can ≡ in_stage) (r : Reached l f) (h : Means (limits_of l) s f) where
+module _ (l : Limits) (s : State) (f : Firm) (good : Good (limits_of l)) (cans : l.calls_can ≡ whole) (r : Reached l f) (h : Means (limits_of l) s f) where
   abbrev m : Kept
   m = h.kept
 
@@ -176,11 +176,7 @@ module _ (l : Limits) (s : State) (f : Firm) (good : Good (limits_of l)) (cans :
         (λ e. asked (calls.account a) _ (account_good ∙ e) account_by account_changed (account_says (ltb-true a 9 e)))
         (λ e. refuses l s f (calls.account a) 2 0 (turned_bad l f (calls.account a) (account_good ∙ e)) (omega arith) account_at_2 h)
 
-  -- WHAT IS NO CALL, and calls that the stage does not do
+  -- WHAT IS NO CALL
   pub garbled_done : (n : ℕ) → Done l s f (calls.garbled n) (refuse 1 n s)
   unfolding call_number good_fields turned_by place garbled_at
   garbled_done n = refuses l s f (calls.garbled n) 1 n (turned_known l f (calls.garbled n) 1 refl refl (omega arith)) (omega arith) refl h
-
-  pub other_done : (c : Call) → (eqb (call_number c) 255 || in_stage (call_number c)) ≡ false → place c 2 ≡ 0 → Done l s f c (refuse 2 0 s)
-  other_done c e at =
-      refuses l s f c 2 0 (turned_bad l f c (ap (λ (g : ℕ → Bool). (eqb (call_number c) 255 || g (call_number c)) && good_fields l c) cans ∙ ap (λ (b : Bool). b && good_fields l c) e)) (omega arith) at h

@@ -130,6 +130,7 @@ module _ (l : Limits) (s : State) (f : Firm) (k q : ℕ) (good : Good (limits_of
             entries = n.entries;
             stocks = h.stocks;
             balances = n.balances;
+            recipes = h.recipes;
             sized = sized_raised (limits_of l) Documents 1 t₁ (sized_raised (limits_of l) Booked x t n.sized);
           }
         where

@@ -13,7 +13,7 @@ use Rattle.records.specs.State.{State}
 use Rattle.wire.specs.Answers.{bytes_of_answer}
 use Rattle.session.specs.Calling.{done, suffices, Called, told_in, called}
 use Rattle.session.specs.Means.{limits_of, Means}
-use Rattle.session.specs.Stage.{in_stage}
+use Rattle.firm.specs.Promise.{whole}
 use Rattle.session.proofs.Keeping.{done_means}
 use Rattle.session.proofs.Turning.{Done}
 
@@ -28,7 +28,7 @@ good_tested l g =
     and_from (leb l.items 4096) _ (le-leb _ _ g.items) (and_from (leb l.orders 65536) _ (le-leb _ _ g.orders) (and_from (leb l.lots 65536) _ (le-leb _ _ g.lots)
     (and_from (leb l.parts 65536) (leb l.entries 1000000) (le-leb _ _ g.parts) (le-leb _ _ g.entries))))
 
-pub called_means : (l : Limits) (s : State) (f : Firm) (c : Call) (old : List ℕ) → Good (limits_of l) → l.calls_can ≡ in_stage → Reached l f → Means (limits_of l) s f →
+pub called_means : (l : Limits) (s : State) (f : Firm) (c : Call) (old : List ℕ) → Good (limits_of l) → l.calls_can ≡ whole → Reached l f → Means (limits_of l) s f →
     answer_need (limits_of l) ≤ length old → Answered l f c old (called c s old)
 unfolding called
 called_means l s f c old good cans r h room =

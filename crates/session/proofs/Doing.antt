@@ -1,19 +1,12 @@
 -- Calls of the code as calls of the meaning. Assumes nothing.
-use Rattle.std.proofs.Common.{◌≡◌, ℕ, Bool, true, false, cond, List, length, Some, None, sym, refl, ap, ◌∙◌}
+use Rattle.std.proofs.Common.{◌≡◌, ℕ, true, false, List, length, Some, None, sym, ap, ◌∙◌}
 use Rattle.std.proofs.lemmas.Bool.{cond-true, cond-false}
-use Rattle.firm.specs.Calls.{Call, made_of, garbled}
-use Rattle.firm.specs.Stock.{Part}
+use Rattle.firm.specs.Calls.{Call}
 use Rattle.layout.specs.declared.limits.Limits.{Limits}
 use Rattle.memory.specs.Books.{limits_in}
 use Rattle.records.specs.State.{State}
-use Rattle.rules.specs.Outcome.{refuse}
 use Rattle.wire.specs.Answers.{bytes_of_answer}
 use Rattle.session.specs.Calling.{done, Said, holds, suffices, called_of, told_in, called}
-
--- a recipe is not done yet, and bytes that are no parts are no recipe
-pub recipe_done : (l : Limits) (b : Bool) (i : ℕ) (ps : List Part) (s : State) → done l (cond b (made_of i ps) (garbled 0)) s ≡ refuse (cond b 2 1) 0 s
-recipe_done l true i ps s = refl
-recipe_done l false i ps s = refl
 
 -- a call on memory that does not suffice does nothing
 pub called_not : (c : Call) (s : State) (old : List ℕ) (l : Limits) → l ≡ limits_in s.narrow → false ≡ holds l (length s.wide) (length s.narrow) (length old) →

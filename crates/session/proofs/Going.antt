@@ -291,6 +291,7 @@ module _ (l : Limits) (s : State) (f : Firm) (k q : ℕ) (can : ℕ → Bool) (c
             entries = enters_it.entries;
             stocks = λ i lt. stock_less f.lots o.item q i (m.stocks i) (h.stocks i lt) lie;
             balances = enters_it.balances;
+            recipes = h.recipes;
             sized = sized_raised (limits_of l) Documents 1 s₅ (sized_raised (limits_of l) Booked x s₄ (sized_lowered (limits_of l) Worth x s₃ enters_it.sized));
           })
         where

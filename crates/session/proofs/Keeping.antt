@@ -2,7 +2,7 @@
 use Rattle.std.proofs.Common.{◌≡◌, ℕ, suc, ◌+◌, ◌*◌, ◌^◌, ◌<◌, ◌≤◌, true, false, ltb, List, [], ◌∷◌, ◌++◌, length, take, drop, sym, refl, ap, ◌∙◌, subst, ap₂, arith, length-append}
 use Rattle.std.proofs.lemmas.List.{take_at, drop_at, get_or_append_left, length-replicate}
 use Rattle.std.proofs.lemmas.Bool.{and_parts, and_from, lt-ltb}
-use Rattle.firm.specs.Firm.{Firm, new_firm}
+use Rattle.firm.specs.Firm.{Firm, new_firm, recipe, recipe_parts}
 use Rattle.firm.specs.Calls.{Call, Limits, call_number, readable}
 use Rattle.firm.specs.Calls as calls
 use Rattle.firm.specs.Refusals.{turned, place}
@@ -21,12 +21,15 @@ use Rattle.records.specs.State.{State, state}
 use Rattle.store.specs.Laws.{nothing_kept}
 use Rattle.store.proofs.Opening.{opens_empty}
 use Rattle.session.specs.Calling.{done}
-use Rattle.session.specs.Keeper.{memory_of, state_of, blank, keeper, Standing, for_stage, Sound}
+use Rattle.session.specs.Keeper.{memory_of, state_of, blank, keeper, Standing, for_all_calls, Sound}
 use Rattle.session.specs.Means.{limits_of, Below, Means}
-use Rattle.session.specs.Stage.{in_stage}
-use Rattle.session.proofs.Asking.{order_done, stock_done, lots_done, account_done, garbled_done, other_done}
+use Rattle.firm.specs.Promise.{whole}
+use Rattle.session.proofs.Asking.{order_done, stock_done, lots_done, account_done, garbled_done}
 use Rattle.session.proofs.Ordering.{ordered_done}
+use Rattle.session.proofs.Counted.{counted_done}
 use Rattle.session.proofs.Going.{goes_done}
+use Rattle.session.proofs.Making.{makes_done}
+use Rattle.session.proofs.Recipes.{made_of_done}
 use Rattle.session.proofs.Billing.{billed_by_done, bills_done}
 use Rattle.session.proofs.Listing.{entries_done}
 use Rattle.session.proofs.Paying.{pays_out_done, pays_in_done}
@@ -38,30 +41,30 @@ pub good_of : (l : Limits) → GoodLimits l → Good (limits_of l)
 good_of l g = record { items = g.0; orders = g.1; lots = g.2; parts = g.3; entries = g.4 }
 
 -- ONE CALL on memory that means a firm
-module _ (l : Limits) (s : State) (f : Firm) (good : Good (limits_of l)) (cans : l.calls_can ≡ in_stage) (r : Reached l f) (h : Means (limits_of l) s f) where
+module _ (l : Limits) (s : State) (f : Firm) (good : Good (limits_of l)) (cans : l.calls_can ≡ whole) (r : Reached l f) (h : Means (limits_of l) s f) where
   pub done_means : (c : Call) → Done l s f c (done (limits_of l) c s)
   unfolding call_number place
   done_means (calls.buys i q p) = ordered_done l s f false i q p good cans r h
   done_means (calls.sells i q p) = ordered_done l s f true i q p good cans r h
   done_means (calls.comes o q) = comes_done l s f o q good cans r h
-  done_means (calls.goes o q) = goes_done l s f o q in_stage refl good cans r h
-  done_means (calls.billed_by o q x) = billed_by_done l s f o q x in_stage refl good cans r h
-  done_means (calls.bills o q) = bills_done l s f o q in_stage refl good cans r h
-  done_means (calls.pays_out x) = pays_out_done l s f x in_stage refl good cans r h
-  done_means (calls.pays_in x) = pays_in_done l s f x in_stage refl good cans r h
-  done_means (calls.made_of i ps) = other_done l s f good cans r h (calls.made_of i ps) refl refl
-  done_means (calls.makes i q) = other_done l s f good cans r h (calls.makes i q) refl refl
-  done_means (calls.counted i q) = other_done l s f good cans r h (calls.counted i q) refl refl
+  done_means (calls.goes o q) = goes_done l s f o q whole refl good cans r h
+  done_means (calls.billed_by o q x) = billed_by_done l s f o q x whole refl good cans r h
+  done_means (calls.bills o q) = bills_done l s f o q whole refl good cans r h
+  done_means (calls.pays_out x) = pays_out_done l s f x whole refl good cans r h
+  done_means (calls.pays_in x) = pays_in_done l s f x whole refl good cans r h
+  done_means (calls.made_of i ps) = made_of_done l s f i ps whole refl good cans r h
+  done_means (calls.makes i q) = makes_done l s f i q whole refl good cans r h
+  done_means (calls.counted i q) = counted_done l s f i q whole refl good cans r h
   done_means (calls.stock_of i) = stock_done l s f good cans r h i
   done_means (calls.account a) = account_done l s f good cans r h a
   done_means (calls.order o) = order_done l s f good cans r h o
   done_means (calls.lots_of i) = lots_done l s f good cans r h i
-  done_means (calls.entries_from n k) = entries_done l s f n k in_stage refl cans r h
+  done_means (calls.entries_from n k) = entries_done l s f n k whole refl cans r h
   done_means (calls.garbled n) = garbled_done l s f good cans r h n
 
 -- OPENED MEMORY means a firm that has nothing
 pub opened_means : (l : memory.Limits) (s : State) → Good l → length s.wide ≡ wide_need l → length s.narrow ≡ narrow_need l → Means l (opened l s) new_firm
-unfolding sum_of all_worth of_item on_hand worth left_side right_side
+unfolding sum_of all_worth of_item on_hand worth left_side right_side recipe recipe_parts
 opened_means l s good w n =
     record {
       kept = nothing_kept;
@@ -75,6 +78,7 @@ opened_means l s good w n =
       entries = refl;
       stocks = λ i lt. refl;
       balances = λ a lt. refl;
+      recipes = record { each = λ i lt. refl; many = λ i lt. refl; rows = refl };
       sized = sized_opened l s good w n;
     }
 
@@ -118,7 +122,7 @@ module _ (l : Limits) (m : Memory) (f : Firm) (g : GoodLimits l) (h : Standing l
   next_stays : 0 < turned l f c → keeper.next m c ≡ m
   next_stays t = on_next ∙ ap memory_of (one.stays t) ∙ sym h.words
 
-opens_standing : (l : Limits) → GoodLimits l → l.calls_can ≡ in_stage → Standing l (keeper.opened l) new_firm
+opens_standing : (l : Limits) → GoodLimits l → l.calls_can ≡ whole → Standing l (keeper.opened l) new_firm
 unfolding ran
 opens_standing l g cans =
     record {
@@ -130,7 +134,7 @@ opens_standing l g cans =
     }
 
 -- WHAT IS OWED
-pub all_steps : AllSteps in_stage keeper Standing
+pub all_steps : AllSteps whole keeper Standing
 all_steps l g cans = record { opens = opens_standing l g cans; answering = λ m f c _ h. on_says l m f g h c; going_on = λ m f c _ h. next_stands l m f g h c }
 
 pub stays : Stays keeper Standing
@@ -139,8 +143,8 @@ stays l m f c g _ h t = next_stays l m f g h c t
 pub keeps_sound : KeepsSound keeper Sound
 keeps_sound =
     record {
-      opens = λ l g. (new_firm, opens_standing (for_stage l) g refl);
-      going_on = λ l m c g _ h. (after (for_stage l) h.0 c, next_stands (for_stage l) m h.0 g h.1 c);
+      opens = λ l g. (new_firm, opens_standing (for_all_calls l) g refl);
+      going_on = λ l m c g _ h. (after (for_all_calls l) h.0 c, next_stands (for_all_calls l) m h.0 g h.1 c);
     }
 
 -- words that fit

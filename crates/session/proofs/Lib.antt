@@ -5,9 +5,14 @@ pub mod Steps
 pub mod Turning
 pub mod Ordering
 pub mod Counting
+pub mod Wanting
+pub mod RecipeWants
+pub mod CountingOff
 pub mod Entering
 pub mod Receiving
 pub mod Going
+pub mod Counted
+pub mod Making
 pub mod Ordered
 pub mod Billed
 pub mod Billing
@@ -15,6 +20,8 @@ pub mod Paying
 pub mod Telling
 pub mod Asking
 pub mod Listing
+pub mod KeptRecipes
+pub mod Recipes
 pub mod Keeping
 pub mod Agreeing
 pub mod Called

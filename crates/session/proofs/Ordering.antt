@@ -29,7 +29,7 @@ use Rattle.store.specs.Steps.{After, after, order_placed, add_order}
 use Rattle.store.specs.View.{Kept, Stands}
 use Rattle.store.proofs.OrderLaws.{adds_order, refuses_order}
 use Rattle.session.specs.Means.{Means, order_of, limits_of, account_sums}
-use Rattle.session.specs.Stage.{in_stage}
+use Rattle.firm.specs.Promise.{whole}
 use Rattle.session.proofs.Steps.{raised_stands}
 use Rattle.session.proofs.Small.{SmallOrder, sized_order_placed, sized_raised}
 use Rattle.session.proofs.Turning.{Done, refuses, goes}
@@ -39,7 +39,7 @@ abbrev order_call : Bool → ℕ → ℕ → ℕ → Call
 order_call true i q p = calls.sells i q p
 order_call false i q p = calls.buys i q p
 
-module _ (l : Limits) (s : State) (f : Firm) (b : Bool) (i q p : ℕ) (good : Good (limits_of l)) (cans : l.calls_can ≡ in_stage) (r : Reached l f) (h : Means (limits_of l) s f) where
+module _ (l : Limits) (s : State) (f : Firm) (b : Bool) (i q p : ℕ) (good : Good (limits_of l)) (cans : l.calls_can ≡ whole) (r : Reached l f) (h : Means (limits_of l) s f) where
   abbrev c : Call
   c = order_call b i q p
 
@@ -141,6 +141,7 @@ module _ (l : Limits) (s : State) (f : Firm) (b : Bool) (i q p : ℕ) (good : Go
           entries = h.entries ∙ sym (append-nil f.entries);
           stocks = h.stocks;
           balances = λ a lt. h.balances a lt ∙ ap (λ (es : List ledger.Entry). account_sums es a) (sym (append-nil f.entries));
+          recipes = h.recipes;
           sized = sized_raised (limits_of l) Documents 1 t (sized_order_placed (limits_of l) x s small (omega (arith, h.stands.orders.count, orders_are, good.orders)) h.sized);
         })
 

@@ -113,6 +113,7 @@ module _ (l : Limits) (s : State) (f : Firm) (c : Call) (a b x : ℕ) (left_know
           entries = enters_it.entries;
           stocks = h.stocks;
           balances = enters_it.balances;
+          recipes = h.recipes;
           sized = sized_raised (limits_of l) Documents 1 s₂ (sized_raised (limits_of l) Booked x s₁ enters_it.sized);
         })
       where

@@ -1,9 +1,8 @@
 -- Goods that come on an order to buy. Assumes nothing.
-use Rattle.std.proofs.Common.{◌≡◌, ℕ, suc, ◌+◌, ◌-◌, ◌*◌, ◌^◌, ◌<◌, ◌≤◌, min, Bool, true, false, cond, ◌&&◌, ◌||◌, eqb, ltb, leb, ◌⊎◌, List, [], ◌∷◌, ◌++◌, map, length, get_or, set, Ok, sym, refl, ap, ◌∙◌, subst, ap₂, inl, inr, append-nil, arith, length-set}
-use Rattle.std.proofs.lemmas.List.{length_push, length-map, map-append, map-set, get_or-map}
-use Rattle.std.proofs.lemmas.Bool.{cond_both, cond-true, cond-false, and_parts, leb-true, ltb-true, le-leb, lt-leb, cases_lt, cases_eq, eq-eqb, ne_eqb}
-use Rattle.firm.specs.Stock.{pick, of_item}
-use Rattle.firm.specs.Stock as stock
+use Rattle.std.proofs.Common.{◌≡◌, ℕ, suc, ◌+◌, ◌-◌, ◌*◌, ◌^◌, ◌<◌, ◌≤◌, min, Bool, true, false, cond, ◌&&◌, ◌||◌, eqb, ltb, leb, List, [], ◌∷◌, ◌++◌, length, get_or, set, Ok, sym, refl, ap, ◌∙◌, subst, ap₂, inl, inr, arith, length-set}
+use Rattle.std.proofs.lemmas.List.{length_push, length-map, map-set, get_or-map}
+use Rattle.std.proofs.lemmas.Bool.{cond_both, and_parts, leb-true, ltb-true, le-leb, lt-leb, cases_lt}
+use Rattle.firm.specs.Stock.{pick}
 use Rattle.firm.specs.Ledger.{entry}
 use Rattle.firm.specs.Firm.{Firm, no_order, the_order, moved_by}
 use Rattle.firm.specs.Firm as firm
@@ -42,14 +41,14 @@ use Rattle.store.proofs.LotLaws.{adds_lot, refuses_lot}
 use Rattle.store.proofs.OrderLaws.{sets_order}
 use Rattle.store.proofs.SumLaws.{counts_in}
 use Rattle.session.specs.Means.{Means, order_of, entry_of, limits_of, Sized}
-use Rattle.session.specs.Stage.{in_stage}
+use Rattle.firm.specs.Promise.{whole}
 use Rattle.session.proofs.Counting.{worth_most, on_hand_small, stock_more}
 use Rattle.session.proofs.Entering.{Entered, enters}
-use Rattle.session.proofs.Steps.{of_item_push, raised_stands}
+use Rattle.session.proofs.Steps.{lots_with, raised_stands}
 use Rattle.session.proofs.Small.{sized_put_order, sized_lot_placed, sized_lot_counted, sized_raised, order_small}
 use Rattle.session.proofs.Turning.{Done, refuses, goes}
 
-module _ (l : Limits) (s : State) (f : Firm) (k q : ℕ) (good : Good (limits_of l)) (cans : l.calls_can ≡ in_stage) (r : Reached l f) (h : Means (limits_of l) s f) where
+module _ (l : Limits) (s : State) (f : Firm) (k q : ℕ) (good : Good (limits_of l)) (cans : l.calls_can ≡ whole) (r : Reached l f) (h : Means (limits_of l) s f) where
   abbrev c : Call
   c = calls.comes k q
 
@@ -266,13 +265,14 @@ module _ (l : Limits) (s : State) (f : Firm) (k q : ℕ) (good : Good (limits_of
               documents = omega (arith, tested.3, h.documents, documents_are);
               booked = omega (arith, tested.1, h.booked, h.stands.frame.totals Booked, sum_entry f.entries 0 1 x d);
               worth = omega (arith, tested.2, h.worth, h.stands.frame.totals Worth, worth_push f.lots (lot_of lot));
-              lots = λ i lt. lots_are i lt (cases_eq i o.item);
+              lots = lots_with l.items m.lots_of f.lots lot h.lots known.item;
               used = omega (arith, h.used, length_push f.lots (lot_of lot));
               orders = map-set order_of m.all_orders k o' ∙ ap (λ (os : List firm.Order). set os k (order_of o')) h.orders;
               entries = enters_it.entries;
               stocks = λ i lt. stock_more f.lots lot i (m.stocks i) (h.stocks i lt) (omega (arith, on_hand_small (limits_of l) s f good h i lt, q_small))
                   (omega (arith, worth_most f.lots i, tested.2, h.stands.frame.totals Worth, h.worth));
               balances = enters_it.balances;
+              recipes = h.recipes;
               sized = sized_raised (limits_of l) Documents 1 s₅ (sized_raised (limits_of l) Booked x s₄ (sized_raised (limits_of l) Worth x s₃ enters_it.sized));
             })
           where
@@ -296,19 +296,6 @@ module _ (l : Limits) (s : State) (f : Firm) (k q : ℕ) (good : Good (limits_of
 
             k₆ : Kept
             k₆ = with_total Documents (min (2 ^ 64 - 1) (k₅.totals Documents + 1)) k₅
-
-            lots_are : (i : ℕ) → i < l.items → (i ≡ o.item) ⊎ (i ≡ o.item → ⊥) → map lot_of (k₁.lots_of i) ≡ of_item (f.lots ++ (lot_of lot ∷ [])) i
-            lots_are i lt (inl z) =
-                ap (map lot_of) (cond-true (eqb i o.item) (m.lots_of o.item ++ lot ∷ []) (m.lots_of i) (eq-eqb _ _ z))
-                ∙ map-append lot_of (m.lots_of o.item) (lot ∷ [])
-                ∙ ap (λ (ls : List stock.Lot). ls ++ lot_of lot ∷ []) (h.lots o.item known.item ∙ ap (of_item f.lots) (sym z))
-                ∙ ap (λ (ls : List stock.Lot). of_item f.lots i ++ ls) (sym (pick_true (eqb o.item i) (lot_of lot ∷ []) [] (eq-eqb _ _ (sym z))))
-                ∙ sym (of_item_push f.lots (lot_of lot) i)
-            lots_are i lt (inr z) =
-                ap (map lot_of) (cond-false (eqb i o.item) (m.lots_of o.item ++ lot ∷ []) (m.lots_of i) (ne_eqb _ _ z))
-                ∙ h.lots i lt ∙ sym (append-nil (of_item f.lots i))
-                ∙ ap (λ (ls : List stock.Lot). of_item f.lots i ++ ls) (sym (pick_false (eqb o.item i) (lot_of lot ∷ []) [] (ne_eqb _ _ (λ w. z (sym w)))))
-                ∙ sym (of_item_push f.lots (lot_of lot) i)
 
         says : number d ≡ told f c
         unfolding told

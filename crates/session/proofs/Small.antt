@@ -5,24 +5,26 @@ use Rattle.std.proofs.lemmas.Bool.{cond_both, cases_lt, cases_eq, and_parts, leb
 use Rattle.layout.specs.declared.limits.Limits.{Limits}
 use Rattle.layout.specs.declared.head.Total.{Total}
 use Rattle.layout.specs.declared.head.Counter.{Counter}
-use Rattle.layout.specs.declared.head.Counter.TheVariants.{Orders, Entries, Lots}
-use Rattle.layout.specs.Layout.{Good, lot_rows, order_rows, entry_rows, wide_need, narrow_need, count_at, total_at, order_at, lot_at, wide_lot_at, entry_at, wide_entry_at, balance_at, stock_at}
+use Rattle.layout.specs.declared.head.Counter.TheVariants.{Orders, Entries, Parts, Lots}
+use Rattle.layout.specs.Layout.{Good, lot_rows, order_rows, entry_rows, wide_need, narrow_need, count_at, total_at, order_at, lot_at, wide_lot_at, entry_at, wide_entry_at, part_at, recipe_at, balance_at, stock_at}
 use Rattle.links.specs.Area.{place_at, tail_at, header_of, after_in, tail_in, inserted, removed, emptied, chained, filled}
 use Rattle.links.specs.declared.shape.Shape.{Shape}
-use Rattle.memory.specs.Books.{count_of, put_count, total_of, put_total, order_record, put_order, lot_record, put_lot, entry_record, put_entry, balance_of, put_balance, stock_of, put_stock}
+use Rattle.memory.specs.Books.{count_of, put_count, total_of, put_total, order_record, put_order, lot_record, put_lot, entry_record, put_entry, put_part, put_recipe, balance_of, put_balance, stock_of, put_stock}
 use Rattle.memory.specs.Opened.{zeroed, with_limits, with_rows, opened}
 use Rattle.records.specs.Kind.{fits, word, over, Kind, lies, write, read_wide, write_wide}
-use Rattle.records.specs.Kinds.{lot_kind, order_kind, entry_kind, balance_kind, stock_kind}
+use Rattle.records.specs.Kinds.{lot_kind, order_kind, entry_kind, part_kind, recipe_kind, balance_kind, stock_kind}
 use Rattle.records.specs.State.{State, state}
 use Rattle.records.specs.declared.balance.Balance.{Balance}
 use Rattle.records.specs.declared.entry.Entry.{Entry}
 use Rattle.records.specs.declared.lot.Lot.{Lot}
 use Rattle.records.specs.declared.order.Order.{Order}
+use Rattle.records.specs.declared.part.Part.{Part}
+use Rattle.records.specs.declared.recipe.Recipe.{Recipe}
 use Rattle.records.specs.declared.stock.Stock.{Stock}
 use Rattle.records.proofs.Over.{length_over, over_same, over_other}
 use Rattle.rules.specs.Totals.{raised, lowered}
 use Rattle.session.specs.Means.{Below, Words, Sized}
-use Rattle.store.specs.Steps.{free_header, pushed, moved_in, moved_out, lot_placed, lot_freed, order_placed, left_cell, right_cell, entry_linked, entry_placed, more_stock, lot_counted, less_stock, counted_out, more_left, more_right, left_posted, right_posted, post}
+use Rattle.store.specs.Steps.{free_header, pushed, moved_in, moved_out, lot_placed, lot_freed, order_placed, left_cell, right_cell, entry_linked, entry_placed, part_placed, front, recipe_placed, more_stock, lot_counted, less_stock, counted_out, more_left, more_right, left_posted, right_posted, post}
 use Rattle.taking.specs.Parts.{share, part_of, rest_of}
 use Rattle.taking.specs.Takes.{take_all}
 use Rattle.taking.specs.declared.wants.Want.{Want}
@@ -169,6 +171,30 @@ sized_order_placed l x s q few h =
     let k : ℕ = count_of Orders s.narrow in
     sized_count l Orders (k + 1) (state s.wide (pushed (order_rows l) x.item k (put_order l k x s.narrow))) few
     (sized_pushed l (order_rows l) x.item k (state s.wide (put_order l k x s.narrow)) (omega arith) (sized_put_order l k x s q h))
+
+-- A ROW OF A RECIPE MORE, and a recipe begun
+pub record SmallPart (x : Part) : Type 0 where
+  pub item : x.item < 2 ^ 32
+  pub each : x.each < 2 ^ 32
+
+pub sized_part_placed : (l : Limits) (x : Part) (s : State) → SmallPart x → count_of Parts s.narrow + 1 < 2 ^ 32 → Sized l s → Sized l (state s.wide (part_placed l x s.narrow))
+unfolding part_placed put_part
+sized_part_placed l x s q few h =
+    let k : ℕ = count_of Parts s.narrow in
+    sized_count l Parts (k + 1) (state s.wide (put_part l k x s.narrow)) few
+    (cond_both (fits (part_at l k) 2 s.narrow) (over (part_at l k) (part_kind.narrow_words x) s.narrow) s.narrow (λ (n : List ℕ). Sized l (state s.wide n))
+    (λ e. record { wide = h.wide; narrow = words_over (narrow_need l) (2 ^ 32) (part_at l k) (part_kind.narrow_words x) s.narrow (leb-true _ _ e) (below_two (2 ^ 32) x.item x.each q.item q.each) h.narrow })
+    (λ _. h))
+
+pub sized_recipe_placed : (l : Limits) (i k : ℕ) (s : State) → SmallPart (front i k) → count_of Parts s.narrow + 1 < 2 ^ 32 → Sized l s → Sized l (state s.wide (recipe_placed l i k s.narrow))
+unfolding recipe_placed put_recipe
+sized_recipe_placed l i k s q few h =
+    let x : Recipe = record { first = count_of Parts s.narrow + 1; parts = k } in
+    let t : State = state s.wide (part_placed l (front i k) s.narrow) in
+    let ht = sized_part_placed l (front i k) s q few h in
+    cond_both (fits (recipe_at i) 2 t.narrow) (over (recipe_at i) (recipe_kind.narrow_words x) t.narrow) t.narrow (λ (n : List ℕ). Sized l (state s.wide n))
+    (λ e. record { wide = ht.wide; narrow = words_over (narrow_need l) (2 ^ 32) (recipe_at i) (recipe_kind.narrow_words x) t.narrow (leb-true _ _ e) (below_two (2 ^ 32) x.first k few q.each) ht.narrow })
+    (λ _. ht)
 
 pub record SmallLot (x : Lot) : Type 0 where
   pub item : x.item < 2 ^ 32

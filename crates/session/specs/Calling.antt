@@ -9,12 +9,15 @@ use Rattle.questions.specs.Entries.{entries_met}
 use Rattle.questions.specs.Listing.{lots_met}
 use Rattle.records.specs.State.{State}
 use Rattle.rules.specs.Asking.{stock_told, account_told, order_told}
+use Rattle.rules.specs.Making as making
 use Rattle.rules.specs.Ordering.{ordered}
 use Rattle.rules.specs.Billing as billing
+use Rattle.rules.specs.Counting as counting
 use Rattle.rules.specs.Going as going
 use Rattle.rules.specs.Outcome.{Outcome, outcome, refuse}
 use Rattle.rules.specs.Paying as paying
 use Rattle.rules.specs.Receiving as receiving
+use Rattle.rules.specs.Recipes as recipes
 use Rattle.wire.specs.Answers.{bytes_of_answer}
 
 abbrev pub lots_told : Limits → ℕ → State → Answer
@@ -23,7 +26,7 @@ lots_told l i s = cond (nat_lt i l.items) (lots (lots_met l i s)) (refused 2 0)
 abbrev pub entries_told : Limits → ℕ → ℕ → State → Answer
 entries_told l n k s = cond (nat_le k 256) (entries (entries_met l n k s)) (refused 2 0)
 
--- THE STAGE: what is not done yet is turned away by 2
+-- EVERY CALL, by what the rules say of it
 abbrev pub done : Limits → Call → State → Outcome
 done l (buys i q p) s = ordered l false i q p s
 done l (sells i q p) s = ordered l true i q p s
@@ -33,9 +36,9 @@ done l (billed_by o q x) s = billing.billed_by l o q x s
 done l (bills o q) s = billing.bills l o q s
 done l (pays_out x) s = paying.pays_out l x s
 done l (pays_in x) s = paying.pays_in l x s
-done l (made_of i ps) s = refuse 2 0 s
-done l (makes i q) s = refuse 2 0 s
-done l (counted i q) s = refuse 2 0 s
+done l (made_of i ps) s = recipes.made_of l i ps s
+done l (makes i q) s = making.makes l i q s
+done l (counted i q) s = counting.counted l i q s
 done l (stock_of i) s = outcome (stock_told l i s.wide) s
 done l (account a) s = outcome (account_told a s.wide) s
 done l (order o) s = outcome (order_told l o s.narrow) s

@@ -11,7 +11,7 @@ use Rattle.memory.specs.Opened.{opened}
 use Rattle.records.specs.State.{State, state}
 use Rattle.session.specs.Calling.{done}
 use Rattle.session.specs.Means.{limits_of, Means}
-use Rattle.session.specs.Stage.{in_stage}
+use Rattle.firm.specs.Promise.{whole}
 
 -- the words of both slices, one behind the other; the limits in front say where the narrow one ends
 abbrev pub memory_of : State → Memory
@@ -38,12 +38,12 @@ pub record Standing (l : Limits) (m : Memory) (f : Firm) : Type 0 where
   pub words : m ≡ memory_of slices
   pub means : Means (limits_of l) slices f
   pub reached : Reached l f
-  pub cans : l.calls_can ≡ in_stage
+  pub cans : l.calls_can ≡ whole
 
--- the same limits for this stage: the keeper does not look at which calls they name
-abbrev pub for_stage : Limits → Limits
-for_stage l = record { calls_can = in_stage; items = l.items; orders = l.orders; lots = l.lots; parts = l.parts; entries = l.entries }
+-- the same limits where every call can be done: the keeper does not look at which calls they name
+abbrev pub for_all_calls : Limits → Limits
+for_all_calls l = record { calls_can = whole; items = l.items; orders = l.orders; lots = l.lots; parts = l.parts; entries = l.entries }
 
 -- the words stand for some firm
 abbrev pub Sound : Limits → Memory → Type 0
-Sound l m = (f : Firm) × Standing (for_stage l) m f
+Sound l m = (f : Firm) × Standing (for_all_calls l) m f

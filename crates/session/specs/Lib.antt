@@ -1,4 +1,3 @@
-pub mod Stage
 pub mod Lengths
 pub mod Boundary
 pub mod Opening

@@ -10,7 +10,7 @@ use Rattle.records.specs.State.{State}
 use Rattle.wire.specs.Answers.{bytes_of_answer}
 use Rattle.wire.specs.Calls.{call_of}
 use Rattle.session.specs.Calling.{Called, called}
-use Rattle.session.specs.Stage.{in_stage}
+use Rattle.firm.specs.Promise.{whole}
 use Rattle.session.specs.declared.error.RunError.{RunError}
 use Rattle.session.specs.declared.error.RunError.TheVariants.{LimitsOutOfRange, OutOfMemory}
 
@@ -37,7 +37,7 @@ framed row = field_bytes (length row) ++ row
 
 -- limits of memory as those of the meaning, for this stage
 abbrev pub books_limits : Limits → calls.Limits
-books_limits l = record { calls_can = in_stage; items = l.items; orders = l.orders; lots = l.lots; parts = l.parts; entries = l.entries }
+books_limits l = record { calls_can = whole; items = l.items; orders = l.orders; lots = l.lots; parts = l.parts; entries = l.entries }
 
 -- what is answered to some rows, from a firm on
 unfoldable pub answered_rows : Limits → Firm → List (List ℕ) → List ℕ

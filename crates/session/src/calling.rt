@@ -1,12 +1,12 @@
 //! One call: bytes in, answer bytes out, on memory that the caller lends.
 
-ghost use Rattle.std.specs.Prelude.{◌≡◌, ◌≤◌, T, length, if◌then◌else◌};
+ghost use Rattle.std.specs.Prelude.{◌≡◌, ◌+◌, ◌*◌, ◌≤◌, T, length};
 ghost use Rattle.wire.specs.Calls.{call_of};
 ghost use Rattle.rules.specs.Going.{goes};
+ghost use Rattle.rules.specs.Making.{makes};
 ghost use Rattle.rules.specs.Outcome.{refusing};
 ghost use Rattle.session.specs.Calling.{Said, done, lots_told, entries_told, holds, called_of, called, Fits};
-ghost use Rattle.wire.specs.Said.{said as meant, are_parts};
-ghost use Rattle.wire.specs.Told.{refusal_number};
+ghost use Rattle.wire.specs.Said.{said as meant};
 ghost use Rattle.firm.specs.Calls.{refused};
 ghost use Rattle.layout.specs.Layout.{answer_need};
 ghost use Rattle.memory.specs.Lent.{seen, words, Same};
@@ -17,6 +17,7 @@ use fields::{ONE_FIELD, ROW_OF_FOUR};
 use layout::Limits;
 use memory::{Memory, View};
 use rules::Refused;
+use taking::Taken;
 use wire::{Call, Refusal};
 
 // That there is room for an answer is asked of three functions here, and of one in `questions`: it ties the limits to other bytes, so that a struct would have to lend both.
@@ -40,6 +41,13 @@ fn say_entries(view: View<'_>, first: u64, count: u64, out: &mut [u8]) -> usize
     }
 }
 
+// How long an answer is that says what was taken.
+fn taken_length(taken: Taken) -> usize
+    ensures { result ≡ 9 + 32 * taken.lines }
+{
+    ONE_FIELD + ROW_OF_FOUR * taken.lines as usize
+}
+
 // Lets goods go: what was taken is in the answer already, and its length is that of so many lines.
 fn say_goes(memory: &mut Memory<'_>, order: u64, pieces: u64, out: &mut [u8]) -> usize
     requires { answer_need memory.old.limits ≤ length out.old }
@@ -48,19 +56,21 @@ fn say_goes(memory: &mut Memory<'_>, order: u64, pieces: u64, out: &mut [u8]) ->
     ensures bytes { Said (goes memory.old.limits order pieces (words memory.old)).answer result out.old out.new }
 {
     match rules::goes(memory, order, pieces, out) {
-        Ok(taken) => ONE_FIELD + ROW_OF_FOUR * taken.lines as usize,
+        Ok(taken) => taken_length(taken),
         Err(refused) => say(refused, out),
     }
 }
 
-// Why a recipe is turned away: it is not done yet, or the bytes of its parts are no parts.
-fn recipe_refusal(parts: &[u8]) -> Refusal
-    ensures { refusal_number result ≡ (if are_parts parts.now then 2 else 1) }
+// Makes pieces: what was taken is in the answer already, as where goods go.
+fn say_makes(memory: &mut Memory<'_>, item: u64, pieces: u64, out: &mut [u8]) -> usize
+    requires { answer_need memory.old.limits ≤ length out.old }
+    ensures memory { words memory.new ≡ (makes memory.old.limits item pieces (words memory.old)).left }
+    ensures same { Same memory.old memory.new }
+    ensures bytes { Said (makes memory.old.limits item pieces (words memory.old)).answer result out.old out.new }
 {
-    if wire::are_parts(parts) {
-        Refusal::BadField
-    } else {
-        Refusal::Unreadable
+    match rules::makes(memory, item, pieces, out) {
+        Ok(taken) => taken_length(taken),
+        Err(refused) => say(refused, out),
     }
 }
 
@@ -92,13 +102,14 @@ fn answer(memory: &mut Memory<'_>, call: Call<'_>, out: &mut [u8]) -> usize
         Call::Bills(order, pieces) => say(rules::bills(memory, order, pieces), out),
         Call::PaysOut(amount) => say(rules::pays_out(memory, amount), out),
         Call::PaysIn(amount) => say(rules::pays_in(memory, amount), out),
+        Call::MadeOf(item, parts) => say(rules::made_of(memory, item, parts), out),
+        Call::Makes(item, pieces) => say_makes(memory, item, pieces, out),
+        Call::Counted(item, pieces) => say(rules::counted(memory, item, pieces), out),
         Call::StockOf(item) => say(rules::stock_of(memory.view(), item), out),
         Call::Account(account) => say(rules::account(memory.view(), account), out),
         Call::Order(order) => say(rules::order(memory.view(), order), out),
         Call::LotsOf(item) => say_lots(memory.view(), item, out),
         Call::EntriesFrom(first, count) => say_entries(memory.view(), first, count, out),
-        Call::MadeOf(_, parts) => say(Refused::first(recipe_refusal(parts)), out),
-        Call::Makes(_, _) | Call::Counted(_, _) => say(Refused::first(Refusal::BadField), out),
     }
 }
 

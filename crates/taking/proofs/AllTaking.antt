@@ -23,7 +23,7 @@ use Rattle.taking.proofs.OneItem.{AllOf, one_item, of_item_few, of_item_worth, o
 use Rattle.taking.proofs.RowTaking.{RowTaken, row_taken}
 
 -- each want gives one part at most of a lot that stays
-take_few : (ls : List firm.Lot) (i q : ℕ) → length (take ls i q).parts + length (take ls i q).left ≤ length ls + 1
+pub take_few : (ls : List firm.Lot) (i q : ℕ) → length (take ls i q).parts + length (take ls i q).left ≤ length ls + 1
 unfolding take
 take_few [] i q = omega arith
 take_few (x ∷ ls) i q =
@@ -63,7 +63,7 @@ module _ (l : Limits) (b : Kept) (good : Good l) (ls : List firm.Lot) (priced : 
           ∙ ap (of_item (take ls i q).left) (sym e)
       at (inr ne) = ap (map lot_of) (row.others j ne) ∙ mean.each j lt ∙ sym ((one_item ls i q).others j ne)
 
-  one_taken : Took l b (taken_on k l i q s) (take ls i q)
+  pub one_taken : Took l b (taken_on k l i q s) (take ls i q)
   one_taken = record {
     lots = record {
       of = row.after;

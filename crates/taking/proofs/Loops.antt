@@ -6,7 +6,7 @@ use Rattle.layout.specs.declared.limits.Limits.{Limits}
 use Rattle.questions.specs.Listing.{lot_of}
 use Rattle.records.specs.State.{State}
 use Rattle.records.specs.declared.lot.Lot.{Lot}
-use Rattle.taking.specs.Takes.{want, gave, take_oldest, Taking, taking, behind, taken_on, most_lines, taken_each, take_all, Tally, tally, nothing_taken, with_part, tallied}
+use Rattle.taking.specs.Takes.{want, gave, take_oldest, Taking, taking, behind, taken_on, most_lines, taken_each, Tally, with_part, tallied}
 use Rattle.taking.specs.declared.wants.Want.{Want}
 use Rattle.taking.proofs.Turns.{taken_more, on_few}
 
@@ -29,8 +29,8 @@ pub record RowSoFar (l : Limits) (i q : ℕ) (s₀ : State) (y₀ : Tally) (line
 -- the loop over what is wanted, from the j-th on
 pub record WantsSoFar (l : Limits) (ws : List Want) (s₀ : State) (y₀ : Tally) (j : ℕ) (s : State) (y : Tally) : Type 0 where
   pub few : y.taken.lines ≤ most_lines l
-  pub slices : (taken_each (drop j ws) l y.taken.lines s).slices ≡ (take_all l ws s₀).slices
-  pub parts : tallied (taken_each (drop j ws) l y.taken.lines s).parts y ≡ tallied (take_all l ws s₀).parts y₀
+  pub slices : (taken_each (drop j ws) l y.taken.lines s).slices ≡ (taken_each ws l y₀.taken.lines s₀).slices
+  pub parts : tallied (taken_each (drop j ws) l y.taken.lines s).parts y ≡ tallied (taken_each ws l y₀.taken.lines s₀).parts y₀
 
 module _ (l : Limits) (i q : ℕ) (s₀ : State) (y₀ : Tally) where
   pub row_begins : RowSoFar l i q s₀ y₀ y₀.taken.lines q s₀ y₀
@@ -83,14 +83,13 @@ module _ (l : Limits) (ws : List Want) (s₀ : State) (y₀ : Tally) where
       }
 
   pub record WantsDone (s : State) (y : Tally) : Type 0 where
-    pub slices : s ≡ (take_all l ws s₀).slices
-    pub told : y ≡ tallied (take_all l ws s₀).parts y₀
+    pub slices : s ≡ (taken_each ws l y₀.taken.lines s₀).slices
+    pub told : y ≡ tallied (taken_each ws l y₀.taken.lines s₀).parts y₀
 
   pub wants_end : (j : ℕ) (s : State) (y : Tally) → WantsSoFar l ws s₀ y₀ j s y → length ws ≤ j → WantsDone s y
   wants_end j s y h le =
       let none : wants_left j y.taken.lines s ≡ taking s [] = ap (λ (xs : List Want). taken_each xs l y.taken.lines s) (drop_all j ws le) in
       record { slices = ap (λ (x : Taking). x.slices) (sym none) ∙ h.slices; told = ap (λ (x : Taking). tallied x.parts y) (sym none) ∙ h.parts }
 
-pub wants_begin : (l : Limits) (ws : List Want) (s : State) (old : List ℕ) → WantsSoFar l ws s (tally old nothing_taken) 0 s (tally old nothing_taken)
-unfolding take_all
-wants_begin l ws s old = record { few = omega arith; slices = refl; parts = refl }
+pub wants_begin : (l : Limits) (ws : List Want) (s : State) (y : Tally) → y.taken.lines ≤ most_lines l → WantsSoFar l ws s y 0 s y
+wants_begin l ws s y few = record { few = few; slices = refl; parts = refl }

@@ -12,7 +12,7 @@ use Rattle.records.specs.State.{State, state}
 use Rattle.records.specs.declared.lot.Lot.{Lot}
 use Rattle.store.specs.Steps.{first_lot, lot_freed}
 use Rattle.taking.specs.Parts.{part_of, rest_of}
-use Rattle.taking.specs.Takes.{gave, given, on_oldest, take_oldest, Taking, taking, taken_on, most_lines, taken_each, take_all}
+use Rattle.taking.specs.Takes.{gave, given, on_oldest, take_oldest, Taking, taking, taken_on, most_lines, taken_each, take_all, off, counted_each, take_counted}
 use Rattle.taking.specs.declared.wants.Want.{Want}
 use Rattle.taking.proofs.Turns.{on}
 
@@ -49,6 +49,16 @@ module _ (l : Limits) (P : State → Type 0) (keep : StepsKeep l P) where
   pub slices_keep : (ws : List Want) (s : State) → P s → P (take_all l ws s).slices
   unfolding take_all
   slices_keep ws s h = each_keeps ws 0 s h
+
+  -- so does taking that counts off, if that keeps it too
+  module _ (offs : (w : Want) (x : ℕ) (s : State) → P s → P (off l w x s)) where
+    each_off_keeps : (ws : List Want) (n x : ℕ) (s : State) → P s → P (counted_each ws l n x s).slices
+    each_off_keeps [] n x s h = h
+    each_off_keeps (w ∷ ws) n x s h = each_off_keeps ws _ _ _ (offs w _ _ (row_keeps (most_lines l - n) w.item w.pieces s h))
+
+    pub counted_keep : (ws : List Want) (s : State) → P s → P (take_counted l ws s).slices
+    unfolding take_counted
+    counted_keep ws s h = each_off_keeps ws 0 0 s h
 
 -- WHAT IS TAKEN passes a test that each part of an oldest lot passes
 each_append : (ok : firm.Lot → Bool) (xs ys : List firm.Lot) → each ok xs ≡ true → each ok ys ≡ true → each ok (xs ++ ys) ≡ true
@@ -91,6 +101,18 @@ module _ (l : Limits) (P : State → Type 0) (keep : StepsKeep l P) (ok : firm.L
   pub parts_pass : (ws : List Want) (s : State) → P s → each ok (take_all l ws s).parts ≡ true
   unfolding take_all
   parts_pass ws s h = each_gives ws 0 s h
+
+  module _ (offs : (w : Want) (x : ℕ) (s : State) → P s → P (off l w x s)) where
+    each_off_gives : (ws : List Want) (n x : ℕ) (s : State) → P s → each ok (counted_each ws l n x s).parts ≡ true
+    unfolding each
+    each_off_gives [] n x s h = refl
+    each_off_gives (w ∷ ws) n x s h =
+        each_append ok (taken_on (most_lines l - n) l w.item w.pieces s).parts _ (row_gives (most_lines l - n) w.item w.pieces s h)
+        (each_off_gives ws _ _ _ (offs w _ _ (row_keeps l P keep (most_lines l - n) w.item w.pieces s h)))
+
+    pub counted_pass : (ws : List Want) (s : State) → P s → each ok (take_counted l ws s).parts ≡ true
+    unfolding take_counted
+    counted_pass ws s h = each_off_gives ws 0 0 s h
 
 -- the cell of an item's oldest lot is one of the lots'
 pub first_inside : (l : Limits) (i : ℕ) (n : List ℕ) (c : ℕ) → first_lot l i n ≡ Some c → c < l.lots

@@ -13,6 +13,7 @@ use Rattle.taking.specs.Takes.{take_all}
 use Rattle.taking.proofs.AllTaking.{each_taken, wanted_costs, one_wanted, recipe_wanted}
 use Rattle.taking.proofs.Costing.{costs}
 use Rattle.taking.proofs.OneItem.{one_item}
+use Rattle.taking.proofs.CountingOff.{counted_few}
 use Rattle.taking.proofs.Tallies.{tells, counts_lines, tells_nothing, sums_costs}
 use Rattle.taking.proofs.Turns.{each_few}
 
@@ -57,6 +58,7 @@ taking_laws = record {
   loses_nothing = loses_nothing;
   oldest_first = oldest_left;
   takes_few = takes_few;
+  counted_few = counted_few;
   tells = tells;
   counts_lines = counts_lines;
   tells_nothing = tells_nothing;

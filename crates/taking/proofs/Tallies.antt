@@ -15,7 +15,7 @@ use Rattle.taking.specs.Laws.{Tells, CountsLines, TellsNothing, SumsCosts}
 use Rattle.taking.specs.Takes.{Tally, tally, nothing_taken, with_part, tallied, told}
 use Rattle.taking.proofs.Loops.{tallied_lines}
 
-tallied_cost : (ps : List Lot) (t : Tally) → t.taken.cost < 2 ^ 64 → (tallied ps t).taken.cost ≡ min (2 ^ 64 - 1) (t.taken.cost + all_worth ps)
+pub tallied_cost : (ps : List Lot) (t : Tally) → t.taken.cost < 2 ^ 64 → (tallied ps t).taken.cost ≡ min (2 ^ 64 - 1) (t.taken.cost + all_worth ps)
 unfolding with_part all_worth
 tallied_cost [] t lt = omega arith
 tallied_cost (p ∷ ps) t lt = tallied_cost ps (with_part p t) (omega arith) ∙ omega arith

@@ -12,7 +12,7 @@ use Rattle.records.specs.State.{State}
 use Rattle.records.specs.declared.lot.Lot.{Lot}
 use Rattle.store.specs.View.{Kept, Stands}
 use Rattle.wire.specs.Answers.{bytes_of_answer}
-use Rattle.taking.specs.Takes.{cost_of, Taking, most_lines, take_all, told}
+use Rattle.taking.specs.Takes.{cost_of, Taking, most_lines, take_all, take_counted, told}
 use Rattle.taking.specs.Wanted.{wanted, WantedCosts, OneItem, OneWanted, RecipeWanted}
 use Rattle.taking.specs.declared.wants.Want.{Want}
 
@@ -78,6 +78,9 @@ OldestFirst =
 abbrev pub TakesFew : Type 0
 TakesFew = (l : Limits) (ws : List Want) (s : State) → length (take_all l ws s).parts ≤ most_lines l
 
+abbrev pub CountedFew : Type 0
+CountedFew = (l : Limits) (ws : List Want) (s : State) → length (take_counted l ws s).parts ≤ most_lines l
+
 abbrev pub Tells : Type 0
 Tells = (l : Limits) (ps : List firm.Lot) (old : List ℕ) → length ps ≤ most_lines l → answer_need l ≤ length old → (told ps old).answer ≡ over (bytes_of_answer (lots ps)) old
 
@@ -97,6 +100,7 @@ pub record TakingLaws : Type 0 where
   pub loses_nothing : LosesNothing
   pub oldest_first : OldestFirst
   pub takes_few : TakesFew
+  pub counted_few : CountedFew
   pub tells : Tells
   pub counts_lines : CountsLines
   pub tells_nothing : TellsNothing

@@ -8,7 +8,7 @@ use Rattle.questions.specs.Listing.{lot_of}
 use Rattle.store.specs.Steps.{sum}
 use Rattle.records.specs.State.{State, state}
 use Rattle.records.specs.declared.lot.Lot.{Lot}
-use Rattle.store.specs.Steps.{one_more, first_lot, lot_after, lot_freed}
+use Rattle.store.specs.Steps.{one_more, first_lot, lot_after, lot_freed, counted_out}
 use Rattle.wire.specs.Answers.{list_head}
 use Rattle.wire.specs.Rows.{lot_bytes}
 use Rattle.taking.specs.Parts.{part_of, rest_of}
@@ -70,16 +70,39 @@ taken_on (suc k) l i q s =
 abbrev pub most_lines : Limits → ℕ
 most_lines l = min (2 ^ 32 - 1) (l.lots + 256)
 
+-- what is wanted of one item, where n parts were taken before
+abbrev pub want_taken : Limits → ℕ → Want → State → Taking
+want_taken l n w s = taken_on (most_lines l - n) l w.item w.pieces s
+
 -- what is wanted, one after the other, where n parts were taken before
 abbrev pub taken_each : List Want → Limits → ℕ → State → Taking
 taken_each [] l n s = taking s []
 taken_each (w ∷ ws) l n s =
-    let t : Taking = taken_on (most_lines l - n) l w.item w.pieces s in
+    let t : Taking = want_taken l n w s in
     let u : Taking = taken_each ws l (n + length t.parts) t.slices in
     taking u.slices (t.parts ++ u.parts)
 
 unfoldable pub take_all : Limits → List Want → State → Taking
 take_all l ws s = taken_each ws l 0 s
+
+-- THE SAME COUNTED OFF: what parts cost with x before them, and a want counted off for its item, which cost x
+abbrev pub costs_more : ℕ → List firm.Lot → ℕ
+costs_more x ps = sum x (firm.all_worth ps)
+
+abbrev pub off : Limits → Want → ℕ → State → State
+off l w x s = state (counted_out l w.item w.pieces x s.wide) s.narrow
+
+-- what is wanted, one after the other, each counted off as it is taken, where n parts were taken before, which cost x
+abbrev pub counted_each : List Want → Limits → ℕ → ℕ → State → Taking
+counted_each [] l n x s = taking s []
+counted_each (w ∷ ws) l n x s =
+    let t : Taking = want_taken l n w s in
+    let y : ℕ = costs_more x t.parts in
+    let u : Taking = counted_each ws l (n + length t.parts) y (off l w (y - x) t.slices) in
+    taking u.slices (t.parts ++ u.parts)
+
+unfoldable pub take_counted : Limits → List Want → State → Taking
+take_counted l ws s = counted_each ws l 0 0 s
 
 -- THE ANSWER: its bytes, how many lines stand there, and what they cost together
 pub record Tally : Type 0 where

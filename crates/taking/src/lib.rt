@@ -12,7 +12,7 @@ mod takes;
 mod wants;
 
 pub use costs::cost_of;
-pub use takes::take_all;
+pub use takes::{take_all, take_counted};
 pub use wants::{Taken, Want};
 
 /// What both functions mean on memory that stands for books: they cost, leave and write what taking does in the books, lose no piece and no cent, and

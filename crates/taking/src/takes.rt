@@ -1,9 +1,9 @@
 //! What is wanted is taken, and written as lines of an answer.
 
-ghost use Rattle.std.specs.Prelude.{◌≡◌};
+ghost use Rattle.std.specs.Prelude.{◌≡◌, ◌≤◌};
 ghost use Rattle.memory.specs.Lent.{words, Same};
 ghost use Rattle.questions.specs.Listing.{lot_of};
-ghost use Rattle.taking.specs.Takes.{take_all, tally, nothing_taken, with_part, tallied, told};
+ghost use Rattle.taking.specs.Takes.{most_lines, taken_each, take_all, take_counted, tally, nothing_taken, with_part, tallied, told};
 
 use crate::oldest::take_oldest;
 use crate::wants::{Taken, Want};
@@ -13,6 +13,9 @@ use wire::{Line, LotLine};
 
 /// The most wants of a call: each leaves a part of one lot at most, so that an answer has room for what was taken.
 const MOST_WANTS: u32 = 256;
+
+/// Before anything is taken.
+const NOTHING: Taken = Taken { lines: 0, cost: 0 };
 
 // Writes what a lot gave behind the lines that are there.
 #[tactic(auto, unfolding(crate::specs::Takes::with_part))]
@@ -26,14 +29,15 @@ fn put_part(answer: &mut [u8], taken: Taken, part: Lot) -> Taken
     }
 }
 
-// Takes what is wanted, one after the other, and writes the lines behind the head.
-fn take_each(memory: &mut Memory<'_>, wants: &[Want], answer: &mut [u8]) -> Taken
-    ensures words { words memory.new ≡ (take_all memory.old.limits wants.now (words memory.old)).slices }
+// Takes what is wanted, one after the other, and writes the lines behind those that are there.
+fn take_each(memory: &mut Memory<'_>, wants: &[Want], answer: &mut [u8], before: Taken) -> Taken
+    requires { before.lines ≤ most_lines memory.old.limits }
+    ensures words { words memory.new ≡ (taken_each wants.now memory.old.limits before.lines (words memory.old)).slices }
     ensures same { Same memory.old memory.new }
-    ensures lines { tally answer.new result ≡ tallied (take_all memory.old.limits wants.now (words memory.old)).parts (tally answer.old nothing_taken) }
+    ensures lines { tally answer.new result ≡ tallied (taken_each wants.now memory.old.limits before.lines (words memory.old)).parts (tally answer.old before) }
 {
     let most = memory.limits.lots.saturating_add(MOST_WANTS);
-    let mut taken = Taken { lines: 0, cost: 0 };
+    let mut taken = before;
     'wants: for want in wants {
         let mut left = want.pieces;
         // A bound on turns, not an index: words that are no books might lead on and on.
@@ -51,14 +55,42 @@ fn take_each(memory: &mut Memory<'_>, wants: &[Want], answer: &mut [u8]) -> Take
     taken
 }
 
+// Takes what is wanted, and counts off for each item what was taken of it.
+fn count_each(memory: &mut Memory<'_>, wants: &[Want], answer: &mut [u8]) -> Taken
+    ensures words { words memory.new ≡ (take_counted memory.old.limits wants.now (words memory.old)).slices }
+    ensures same { Same memory.old memory.new }
+    ensures lines { tally answer.new result ≡ tallied (take_counted memory.old.limits wants.now (words memory.old)).parts (tally answer.old nothing_taken) }
+{
+    let mut taken = NOTHING;
+    for want in wants {
+        let before = taken.cost;
+        taken = take_each(memory, &[*want], answer, taken);
+        let cost = taken.cost.saturating_sub(before);
+        store::count_out(memory, want.item, want.pieces, cost);
+    }
+    taken
+}
+
 /// Takes pieces of items, the oldest lots first, and writes what was taken of which lots as an answer, where it has room.
-#[tactic(auto, unfolding(crate::specs::Takes::told))]
+#[tactic(auto, unfolding(crate::specs::Takes::told, crate::specs::Takes::take_all))]
 pub fn take_all(memory: &mut Memory<'_>, wants: &[Want], answer: &mut [u8]) -> Taken
     ensures words { words memory.new ≡ (take_all memory.old.limits wants.now (words memory.old)).slices }
     ensures same { Same memory.old memory.new }
     ensures answer { tally answer.new result ≡ told (take_all memory.old.limits wants.now (words memory.old)).parts answer.old }
 {
-    let taken = take_each(memory, wants, answer);
+    let taken = take_each(memory, wants, answer, NOTHING);
+    let _ = LotLine::begin(answer, u64::from(taken.lines));
+    taken
+}
+
+/// Takes pieces as `take_all` does, and counts them off for their items as they are taken.
+#[tactic(auto, unfolding(crate::specs::Takes::told))]
+pub fn take_counted(memory: &mut Memory<'_>, wants: &[Want], answer: &mut [u8]) -> Taken
+    ensures words { words memory.new ≡ (take_counted memory.old.limits wants.now (words memory.old)).slices }
+    ensures same { Same memory.old memory.new }
+    ensures answer { tally answer.new result ≡ told (take_counted memory.old.limits wants.now (words memory.old)).parts answer.old }
+{
+    let taken = count_each(memory, wants, answer);
     let _ = LotLine::begin(answer, u64::from(taken.lines));
     taken
 }

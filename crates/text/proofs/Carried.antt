@@ -1,5 +1,5 @@
 -- Every answer on memory of small words has numbers that its bytes can carry. Assumes nothing.
-use Rattle.std.proofs.Common.{◌≡◌, ℕ, ◌+◌, ◌*◌, ◌^◌, ◌<◌, ◌≤◌, Bool, true, false, cond, ltb, leb, List, [], ◌∷◌, ◌++◌, length, Ok, Err, Result, refl, arith, mul-le-mul}
+use Rattle.std.proofs.Common.{◌≡◌, ℕ, ◌+◌, ◌*◌, ◌^◌, ◌<◌, ◌≤◌, Bool, true, false, cond, ltb, leb, eqb, ◌&&◌, ◌-◌, List, [], ◌∷◌, ◌++◌, length, Ok, Err, Result, refl, arith, mul-le-mul}
 use Rattle.std.proofs.lemmas.Bool.{cond_both, and_from, and_parts, leb-true, lt-ltb}
 use Rattle.firm.specs.Stock as stock
 use Rattle.firm.specs.Calls.{Call, Answer, refused, number, two, lots, field, readable}
@@ -9,7 +9,7 @@ use Rattle.layout.specs.Layout.{Good, lot_rows}
 use Rattle.layout.specs.declared.head.Counter.TheVariants.{Orders}
 use Rattle.layout.specs.declared.head.Total.TheVariants.{Documents}
 use Rattle.layout.specs.declared.limits.Limits.{Limits}
-use Rattle.memory.specs.Books.{count_of, total_of, order_record, put_order, lot_record, balance_of, stock_of}
+use Rattle.memory.specs.Books.{recipe_of, count_of, total_of, order_record, put_order, lot_record, balance_of, stock_of}
 use Rattle.questions.specs.Listing.{lot_of, lots_step, lots_met}
 use Rattle.std.specs.List.{fold}
 use Rattle.links.specs.Walk.{cells_in}
@@ -17,8 +17,12 @@ use Rattle.questions.proofs.Listed.{met_few}
 use Rattle.records.specs.State.{State, state}
 use Rattle.records.specs.declared.lot.Lot.{Lot}
 use Rattle.records.specs.declared.order.Order.{Order}
+use Rattle.records.specs.declared.stock.Stock.{Stock}
 use Rattle.rules.specs.Billing.{bill_fits, bill_of, entries_of, amount_of, billed, charged}
 use Rattle.rules.specs.declared.billing.Bill.{Bill}
+use Rattle.rules.specs.Counting as counting
+use Rattle.rules.specs.Making as making
+use Rattle.rules.specs.Recipes.{some_parts, recipe_fits, recipe_kept}
 use Rattle.rules.specs.Checks.{one, owed, in_time}
 use Rattle.rules.specs.Ordering.{new_order, order_fields, added, ordered}
 use Rattle.rules.specs.Outcome.{Outcome, outcome, refuse}
@@ -26,14 +30,15 @@ use Rattle.rules.specs.Going.{gone, goes_fits, let_go}
 use Rattle.rules.specs.Paying.{paid, pays_fits, pays}
 use Rattle.rules.specs.Receiving.{comes_fits, new_lot, placed, stored, moved_more, with_order}
 use Rattle.taking.specs.Parts.{part_of}
-use Rattle.taking.specs.Takes.{want, cost_of, take_all}
+use Rattle.taking.specs.Takes.{want, cost_of, take_all, take_counted}
 use Rattle.taking.specs.declared.wants.Want.{Want}
-use Rattle.taking.proofs.StepKeeping.{parts_pass}
+use Rattle.taking.proofs.CountingOff.{counted_few}
+use Rattle.taking.proofs.StepKeeping.{parts_pass, counted_pass}
 use Rattle.taking.proofs.TakingLaws.{takes_few}
 use Rattle.session.specs.Calling.{done}
 use Rattle.text.proofs.EntriesCarried.{entries_carried}
 use Rattle.session.specs.Means.{Sized}
-use Rattle.session.proofs.Small.{SmallLot, balance_small, stock_small, order_small, lot_small, part_small, sized_put_order, steps_sized}
+use Rattle.session.proofs.Small.{sized_counted_out, SmallLot, balance_small, stock_small, order_small, lot_small, part_small, sized_put_order, steps_sized}
 use Rattle.store.specs.Steps.{After, add_order, add_lot, order_placed}
 use Rattle.store.specs.Steps as steps
 use Rattle.store.specs.declared.refusal.Refusal.{Refusal}
@@ -74,6 +79,11 @@ taken_carried : (l : Limits) (ws : List Want) (s : State) → Good l → Sized l
 taken_carried l ws s good z =
     and_from (field (length (take_all l ws s).parts)) _ (small _ (omega (arith, takes_few l ws s)))
     (parts_pass l (Sized l) (steps_sized l good) lot_fits (λ c q t h. lot_carried (part_of (lot_record l c t) q) (part_small l c q t h)) ws s z)
+
+counted_off_carried : (l : Limits) (ws : List Want) (s : State) → Good l → Sized l s → Carried (lots (take_counted l ws s).parts)
+counted_off_carried l ws s good z =
+    and_from (field (length (take_counted l ws s).parts)) _ (small _ (omega (arith, counted_few l ws s)))
+    (counted_pass l (Sized l) (steps_sized l good) lot_fits (λ c q t h. lot_carried (part_of (lot_record l c t) q) (part_small l c q t h)) (λ w x t h. sized_counted_out l w.item w.pieces x t h) ws s z)
 
 module _ (l : Limits) (s : State) (z : Sized l s) where
   -- records that are read from small words
@@ -261,6 +271,72 @@ module _ (l : Limits) (s : State) (z : Sized l s) where
       of_kind : ℕ → ℕ → Outcome
       of_kind k q = cond (wanted k).sells (enough k q) (refuse 5 0 s)
 
+  -- recipes, making and counts
+  made_of_carried : (i : ℕ) (ps : List stock.Part) → ToldCarried (done l (calls.made_of i ps) s)
+  made_of_carried i ps =
+      let keeps : Outcome = outcome (number document) (recipe_kept l i ps s) in
+      let fitting : Outcome = cond (recipe_fits l (length ps) s) keeps (refuse 9 0 s) in
+      cond_both (ltb i l.items && some_parts ps i) fitting (refuse 2 0 s) ToldCarried
+      (λ _. cond_both (recipe_fits l (length ps) s) keeps (refuse 9 0 s) ToldCarried (λ _. small _ documents_small) (λ _. refl))
+      (λ _. refl)
+
+  makes_carried : Good l → (i q : ℕ) → ToldCarried (done l (calls.makes i q) s)
+  makes_carried g i q =
+      let ws : List Want = making.item_wants l i q s in
+      let makes_it : Outcome = making.made_of l i q document (making.made l i q s) in
+      let fitting : Outcome = cond (making.makes_fits l ws s) makes_it (refuse 9 0 s) in
+      let lying : Outcome = cond (making.all_lie ws s.wide) fitting (refuse 7 1 s) in
+      let by_recipe : Outcome = cond (leb 1 (recipe_of i s.narrow).parts) lying (refuse 8 0 s) in
+      cond_both (ltb i l.items) (cond (some_pieces q) by_recipe (refuse 2 0 s)) (refuse 2 0 s) ToldCarried
+      (λ _. cond_both (some_pieces q) by_recipe (refuse 2 0 s) ToldCarried
+      (λ _. cond_both (leb 1 (recipe_of i s.narrow).parts) lying (refuse 8 0 s) ToldCarried
+      (λ _. cond_both (making.all_lie ws s.wide) fitting (refuse 7 1 s) ToldCarried
+      (λ _. cond_both (making.makes_fits l ws s) makes_it (refuse 9 0 s) ToldCarried (λ _. counted_off_carried l ws s g z) (λ _. refl))
+      (λ _. refl))
+      (λ _. refl))
+      (λ _. refl))
+      (λ _. refl)
+
+  counted_carried : (i q : ℕ) → ToldCarried (done l (calls.counted i q) s)
+  counted_carried i q =
+      cond_both (ltb i l.items) (cond (leb q 1000000000) settling (refuse 2 0 s)) (refuse 2 0 s) ToldCarried
+      (λ _. cond_both (leb q 1000000000) settling (refuse 2 0 s) ToldCarried
+      (λ _. cond_both (ltb q a.pieces) losing (cond (eqb q a.pieces) agreeing finding) ToldCarried
+      (λ _. cond_both (goes_fits l cost s) _ (refuse 9 0 s) ToldCarried (λ _. before_carried) (λ _. refl))
+      (λ _. cond_both (eqb q a.pieces) agreeing finding ToldCarried
+      (λ _. cond_both (in_time s) _ (refuse 9 0 s) ToldCarried (λ _. before_carried) (λ _. refl))
+      (λ _. cond_both (in_time s) (counting.placed l a lot_more) (refuse 9 0 s) ToldCarried (λ _. found_carried lot_more.left lot_more.came) (λ _. refl))))
+      (λ _. refl))
+      (λ _. refl)
+    where
+      a : Stock
+      a = stock_of i s.wide
+
+      cost : ℕ
+      cost = cost_of l (want i (a.pieces - q)) s
+
+      lot_more : After ℕ State
+      lot_more = add_lot l (counting.found_lot i (q - a.pieces) document) s
+
+      losing : Outcome
+      losing = counting.lost l i (a.pieces - q) a s
+
+      agreeing : Outcome
+      agreeing = counting.agreed a s
+
+      finding : Outcome
+      finding = counting.found l i (q - a.pieces) a s
+
+      settling : Outcome
+      settling = counting.settled l i q a s
+
+      before_carried : Carried (counting.before a)
+      before_carried = two_carried _ _ (stock_small l i s z).0 (stock_small l i s z).1
+
+      found_carried : (t : State) (r : Result ℕ Refusal) → ToldCarried (counting.stored l a t r)
+      found_carried t (Ok c) = before_carried
+      found_carried t (Err e) = refl
+
   -- EVERY ANSWER
   pub carried : Good l → (c : Call) → readable c ≡ true → Carried (done l c s).answer
   unfolding readable
@@ -272,9 +348,9 @@ module _ (l : Limits) (s : State) (z : Sized l s) where
   carried g (calls.bills o q) h = bills_carried o q
   carried g (calls.pays_out x) h = pays_out_carried x
   carried g (calls.pays_in x) h = pays_in_carried x
-  carried g (calls.made_of i ps) h = refl
-  carried g (calls.makes i q) h = refl
-  carried g (calls.counted i q) h = refl
+  carried g (calls.made_of i ps) h = made_of_carried i ps
+  carried g (calls.makes i q) h = makes_carried g i q
+  carried g (calls.counted i q) h = counted_carried i q
   carried g (calls.stock_of i) h =
       cond_both (ltb i l.items) (two (stock_of i s.wide).pieces (stock_of i s.wide).worth) (refused 2 0) Carried (λ _. two_carried _ _ (stock_small l i s z).0 (stock_small l i s z).1) (λ _. refl)
   carried g (calls.account a) h =

@@ -7,7 +7,7 @@ use Rattle.firm.specs.Statements.{Reached}
 use Rattle.layout.specs.Layout.{Good, answer_need}
 use Rattle.records.specs.State.{State}
 use Rattle.session.specs.Means.{limits_of, Means}
-use Rattle.session.specs.Stage.{in_stage}
+use Rattle.firm.specs.Promise.{whole}
 use Rattle.wire.specs.Calls.{Sendable, bytes_of_call}
 use Rattle.answer_lines.specs.Shown.{shown}
 use Rattle.text.specs.Run.{printed}
@@ -15,7 +15,7 @@ use Rattle.text.specs.Run.{printed}
 -- memory s means the firm f, which calls reach, and so many bytes are room for its answers
 pub record Standing (l : Limits) (f : Firm) (s : State) (room : ℕ) : Type 0 where
   pub good : Good (limits_of l)
-  pub cans : l.calls_can ≡ in_stage
+  pub cans : l.calls_can ≡ whole
   pub reached : Reached l f
   pub means : Means (limits_of l) s f
   pub enough : answer_need (limits_of l) ≤ room

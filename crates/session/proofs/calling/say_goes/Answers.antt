@@ -1,4 +1,4 @@
-use Rattle.std.proofs.Common.{◌+◌, ◌*◌, ap, subst}
+use Rattle.std.proofs.Common.{ap, subst}
 use Rattle.firm.specs.Calls.{Answer}
 use Rattle.memory.specs.Lent.{words}
 use Rattle.rules.specs.Going.{gone}
@@ -12,5 +12,5 @@ pub returns-in-Ok-clause-bytes : goal.returns-in-Ok-clause-bytes
 returns-in-Ok-clause-bytes c =
     let l = c.args.memory.now.limits in
     let ps = (gone l c.args.order c.args.pieces (words c.args.memory.now)).parts in
-    subst (λ (a : Answer). Said a (9 + 32 * c.in-Ok.taken.lines) c.args.out.now c.goes.new.answer) (ap (λ (o : Outcome). o.answer) c.in-Ok.ensures.outcome)
-    (lots_said l ps c.in-Ok.taken c.args.out.now c.goes.new.answer (takes_few l _ _) c.requires c.in-Ok.ensures.answer)
+    subst (λ (a : Answer). Said a c.taken_length.result c.args.out.now c.goes.new.answer) (ap (λ (o : Outcome). o.answer) c.in-Ok.ensures.outcome)
+    (lots_said l ps c.in-Ok.taken c.taken_length.result c.args.out.now c.goes.new.answer c.taken_length.ensures (takes_few l _ _) c.requires c.in-Ok.ensures.answer)

@@ -3,14 +3,14 @@ use Rattle.layout.specs.declared.limits.Limits.{Limits}
 use Rattle.memory.specs.Lent.{words}
 use Rattle.memory.proofs.Holding.{same_on}
 use Rattle.records.specs.State.{State}
-use Rattle.taking.specs.Takes.{want, gave, most_lines, Tally, tally, nothing_taken, take_oldest}
+use Rattle.taking.specs.Takes.{want, gave, most_lines, Tally, tally, take_oldest}
 use Rattle.taking.specs.declared.wants.Want.{Want}
 use Rattle.taking.proofs.Loops.{row_turns, row_ends, wants_begin, wants_turn, wants_end}
 use Rattle.taking.proofs.Turns.{gave_few, gave_none, taken_enough, taken_ends, taken_over}
 use Rattle.taking.proofs.takes.take_each.Goals as goal
 
 pub wants-init : goal.wants-init
-wants-init c = ((refl, refl, refl), wants_begin c.args.memory.now.limits c.args.wants.now (words c.args.memory.now) c.args.answer.now)
+wants-init c = ((refl, refl, refl), wants_begin c.args.memory.now.limits c.args.wants.now (words c.args.memory.now) (tally c.args.answer.now c.args.before) c.requires)
 
 pub wants-preserved-then-left-eq0 : goal.wants-preserved-then-left-eq0
 wants-preserved-then-left-eq0 c =
@@ -21,7 +21,7 @@ wants-preserved-then-left-eq0 c =
     let s : State = words c.loop-line.memory in
     let y : Tally = tally c.loop-line.answer c.loop-line.taken in (
       c.loop-line.invariant.0,
-      wants_turn l c.args.wants.now (words c.args.memory.now) (tally c.args.answer.now nothing_taken) c.wants.want-index s₁ y₁ s y c.wants.invariant.1 c.wants-test.true
+      wants_turn l c.args.wants.now (words c.args.memory.now) (tally c.args.answer.now c.args.before) c.wants.want-index s₁ y₁ s y c.wants.invariant.1 c.wants-test.true
           (row_ends l w.item w.pieces s₁ y₁ c.loop-line._line c.loop-line.left s y c.loop-line.invariant.1
           (taken_enough (most_lines l - c.loop-line._line) l w.item c.loop-line.left s c.if-left-eq0.true)),
     )
@@ -39,7 +39,7 @@ wants-preserved-in_default c =
     let done = row_ends l w.item w.pieces s₁ y₁ c.loop-line._line c.loop-line.left s y c.loop-line.invariant.1
     (taken_ends (most_lines l - c.loop-line._line) l w.item c.loop-line.left s t none) in (
       same_on c.args.memory.now c.loop-line.memory c.take_oldest.new.memory c.loop-line.invariant.0 c.in_default.ensures.same,
-      wants_turn l c.args.wants.now (words c.args.memory.now) (tally c.args.answer.now nothing_taken) c.wants.want-index s₁ y₁ t y c.wants.invariant.1 c.wants-test.true
+      wants_turn l c.args.wants.now (words c.args.memory.now) (tally c.args.answer.now c.args.before) c.wants.want-index s₁ y₁ t y c.wants.invariant.1 c.wants-test.true
           (record { slices = gave_none l w.item c.loop-line.left s t none ∙ done.slices; told = done.told }),
     )
 
@@ -73,13 +73,13 @@ wants-preserved c =
     let y : Tally = tally c.loop-line.answer c.loop-line.taken in
     let over : most_lines l ≤ c.loop-line._line = omega (arith, c.loop-line-test.false, c.saturating_add-most.ensures) in (
       c.loop-line.invariant.0,
-      wants_turn l c.args.wants.now (words c.args.memory.now) (tally c.args.answer.now nothing_taken) c.wants.want-index s₁ y₁ s y c.wants.invariant.1 c.wants-test.true
+      wants_turn l c.args.wants.now (words c.args.memory.now) (tally c.args.answer.now c.args.before) c.wants.want-index s₁ y₁ s y c.wants.invariant.1 c.wants-test.true
           (row_ends l w.item w.pieces s₁ y₁ c.loop-line._line c.loop-line.left s y c.loop-line.invariant.1
           (taken_over (most_lines l) c.loop-line._line l w.item c.loop-line.left s over)),
     )
 
 pub returns : goal.returns
 returns c =
-    let done = wants_end c.args.memory.now.limits c.args.wants.now (words c.args.memory.now) (tally c.args.answer.now nothing_taken) c.wants.want-index
+    let done = wants_end c.args.memory.now.limits c.args.wants.now (words c.args.memory.now) (tally c.args.answer.now c.args.before) c.wants.want-index
     (words c.wants.memory) (tally c.wants.answer c.wants.taken) c.wants.invariant.1 c.wants-test.false in
     record { words = done.slices; same = c.wants.invariant.0; lines = done.told }

@@ -1,12 +1,12 @@
 use Rattle.memory.specs.Lent.{words, Same}
-use Rattle.taking.specs.Takes.{tally, nothing_taken}
+use Rattle.taking.specs.Takes.{tally}
 use Rattle.taking.proofs.Loops.{RowSoFar, WantsSoFar}
 use Rattle.taking.proofs.takes.take_each.Given as goal
 
 abbrev pub invariant-wants : goal.invariant-wants
 invariant-wants l =
     Same l.fn.memory l.memory
-    × WantsSoFar l.fn.memory.limits l.wants (words l.fn.memory) (tally l.fn.answer nothing_taken) l.want-index (words l.memory) (tally l.answer l.taken)
+    × WantsSoFar l.fn.memory.limits l.wants (words l.fn.memory) (tally l.fn.answer l.fn.before) l.want-index (words l.memory) (tally l.answer l.taken)
 
 abbrev pub invariant-loop-line : goal.invariant-loop-line
 invariant-loop-line l =

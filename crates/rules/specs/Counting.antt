@@ -1,0 +1,63 @@
+-- A count of an item's pieces, on any memory. Definitions only: nothing is assumed.
+use Rattle.std.specs.Prelude.{ℕ, ◌-◌, cond, [], ◌∷◌, Ok, Err, Result, ◌==◌, nat_le, nat_lt}
+use Rattle.firm.specs.Calls.{Answer, refused, two}
+use Rattle.layout.specs.declared.head.Total.TheVariants.{Documents}
+use Rattle.layout.specs.declared.limits.Limits.{Limits}
+use Rattle.memory.specs.Books.{total_of, stock_of}
+use Rattle.records.specs.State.{State, state}
+use Rattle.records.specs.declared.lot.Lot.{Lot}
+use Rattle.records.specs.declared.stock.Stock.{Stock}
+use Rattle.store.specs.Steps.{After, add_lot, count_in, counted_out}
+use Rattle.store.specs.declared.refusal.Refusal.{Refusal}
+use Rattle.taking.specs.Takes.{want, cost_of, take_all}
+use Rattle.rules.specs.Checks.{in_time}
+use Rattle.rules.specs.Entering.{entered}
+use Rattle.rules.specs.Going.{summed_out, goes_fits}
+use Rattle.rules.specs.Outcome.{Outcome, outcome, refuse}
+use Rattle.rules.specs.Totals.{raised}
+
+-- what an item had before the count
+abbrev pub before : Stock → Answer
+before a = two a.pieces a.worth
+
+abbrev pub document_more : State → State
+document_more s = state (raised Documents 1 s.wide) s.narrow
+
+-- AS MANY are there: nothing but a document more
+abbrev pub agreed : Stock → State → Outcome
+agreed a s = cond (in_time s) (outcome (before a) (document_more s)) (refuse 9 0 s)
+
+-- Q PIECES FEWER: on memory that has them no more they are counted out for their item, and their cost is entered on 8 and 0
+unfoldable pub written_off : Limits → ℕ → ℕ → ℕ → ℕ → State → State
+written_off l i q x d s =
+    summed_out x (entered l (record { left = 8; right = 0; amount = x; «document» = d }) (state (counted_out l i q x s.wide) s.narrow))
+
+-- at the cost x of taking them
+abbrev pub lost_at : Limits → ℕ → ℕ → ℕ → Stock → State → Outcome
+lost_at l i q x a s =
+    cond (goes_fits l x s) (outcome (before a) (written_off l i q x (total_of Documents s.wide) (take_all l (want i q ∷ []) s).slices)) (refuse 9 0 s)
+
+abbrev pub lost : Limits → ℕ → ℕ → Stock → State → Outcome
+lost l i q a s = lost_at l i q (cost_of l (want i q) s) a s
+
+-- Q PIECES MORE: a lot that costs nothing
+abbrev pub found_lot : ℕ → ℕ → ℕ → Lot
+found_lot i q d = record { item = i; pieces = q; cost = 0; «document» = d }
+
+-- by what came of adding it, which leaves t: it is counted for its item
+abbrev pub stored : Limits → Stock → State → Result ℕ Refusal → Outcome
+stored l a t (Ok c) = outcome (before a) (document_more (state (count_in l c t) t.narrow))
+stored l a t (Err e) = outcome (refused 9 0) t
+
+abbrev pub placed : Limits → Stock → After ℕ State → Outcome
+placed l a r = stored l a r.left r.came
+
+abbrev pub found : Limits → ℕ → ℕ → Stock → State → Outcome
+found l i q a s = cond (in_time s) (placed l a (add_lot l (found_lot i q (total_of Documents s.wide)) s)) (refuse 9 0 s)
+
+-- by what is there
+abbrev pub settled : Limits → ℕ → ℕ → Stock → State → Outcome
+settled l i q a s = cond (nat_lt q a.pieces) (lost l i (a.pieces - q) a s) (cond (q == a.pieces) (agreed a s) (found l i (q - a.pieces) a s))
+
+abbrev pub counted : Limits → ℕ → ℕ → State → Outcome
+counted l i q s = cond (nat_lt i l.items) (cond (nat_le q 1000000000) (settled l i q (stock_of i s.wide) s) (refuse 2 0 s)) (refuse 2 0 s)
