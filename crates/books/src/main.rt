@@ -9,6 +9,7 @@ use text::run;
 const BOOKS: Program = Program {
     name: "books",
     does: "Answers the calls of FILE, or of standard input, a line each.",
+    by_line: true,
 };
 
 fn main(rt: HostRuntime) -> ExitCode {

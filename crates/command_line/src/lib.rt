@@ -9,6 +9,7 @@ mod program;
 mod request;
 #[cfg(test)]
 mod tests;
+mod typing;
 
 pub use failure::Failure;
 pub use limit::Limit;

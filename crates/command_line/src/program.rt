@@ -4,6 +4,7 @@ ghost use Rattle.std.specs.Prelude.{◌≡◌, ◌⊎◌};
 
 use crate::failure::Failure;
 use crate::request::Request;
+use crate::typing::answer_lines;
 use layout::Limits;
 use std::alloc::Global;
 use std::io::{Read, Write};
@@ -27,6 +28,8 @@ pub struct Program {
     pub name: &'static str,
     /// What it does, as its help says.
     pub does: &'static str,
+    /// Whether standard input is answered a line at a time, as it comes.
+    pub by_line: bool,
 }
 
 // What the arguments ask for.
@@ -54,7 +57,7 @@ fn input(rt: &HostRuntime, file: Option<String>) -> Result<Vec<u8>, Failure> {
 
 impl Program {
     fn help(self, rt: &HostRuntime) -> io::Result<()> {
-        let Program { name, does } = self;
+        let Program { name, does, .. } = self;
         print!(rt; "usage: {name} {OPTIONS}\n\n{does}\n\n{WHAT_OPTIONS_DO}")
     }
 
@@ -66,6 +69,9 @@ impl Program {
         let request = request(rt)?;
         if request.help {
             return self.help(rt).map_err(Failure::Output);
+        }
+        if self.by_line && request.file.is_none() {
+            return answer_lines(rt, request.limits);
         }
         let text = input(rt, request.file)?;
         let answer = work(rt.alloc(), request.limits, text.as_slice())?;

@@ -10,6 +10,7 @@ use std::process::ExitCode;
 const REPORT: Program = Program {
     name: "report",
     does: "Does the calls of FILE, or of standard input, and prints stock, accounts and orders as they are in the end.",
+    by_line: false,
 };
 
 fn main(rt: HostRuntime) -> ExitCode {
