@@ -12,7 +12,7 @@ use Rattle.firm.specs.Refusals.{turned, place}
 abbrev pub after : Limits → Firm → Call → Firm
 after l f c = pick (turned l f c == 0) (changed f c) f
 
--- what a call that is taken is answered
+-- what a call that is taken is answered; bytes that are no call are never taken, and what stands for them here is never said
 unfoldable pub told : Firm → Call → Answer
 told f (buys i q p) = number (length f.orders)
 told f (sells i q p) = number (length f.orders)
@@ -36,10 +36,12 @@ told f (garbled n) = number 0
 abbrev pub answer : Limits → Firm → Call → Answer
 answer l f c = pick (turned l f c == 0) (told f c) (refused (turned l f c) (place c (turned l f c)))
 
+-- what a list of calls is answered, one after the other
 unfoldable pub answers : Limits → Firm → List Call → List Answer
 answers l f [] = []
 answers l f (c ∷ cs) = answer l f c ∷ answers l (after l f c) cs
 
+-- the firm after them
 unfoldable pub ran : Limits → Firm → List Call → Firm
 ran l f [] = f
 ran l f (c ∷ cs) = ran l (after l f c) cs

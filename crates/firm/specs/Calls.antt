@@ -22,7 +22,7 @@ pub data Call : Type 0 where
   entries_from : ℕ → ℕ → Call  -- a question: the n-th entry on, how many
   garbled : ℕ → Call  -- bytes that are no call, and the place of the first that does not fit
 
--- refused: by which number, and at which place
+-- an answer: a refusal by its number, at a place; one number; two; lots; entries
 pub data Answer : Type 0 where
   refused : ℕ → ℕ → Answer
   number : ℕ → Answer

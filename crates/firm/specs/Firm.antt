@@ -32,6 +32,7 @@ new_firm = record { documents = 0; lots = []; orders = []; recipes = []; entries
 abbrev pub no_order : Order
 no_order = record { sells = false; item = 0; pieces = 0; price = 0; moved = 0; billed = 0 }
 
+-- the order with this number
 abbrev pub the_order : Firm → ℕ → Order
 the_order f o = slice_index_or f.orders o no_order
 

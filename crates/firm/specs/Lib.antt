@@ -5,8 +5,8 @@ pub mod Calls
 pub mod Changes
 pub mod Refusals
 pub mod Answers
-pub mod Promise
-pub mod Keeping
 pub mod Statements
 pub mod Laws
+pub mod Promise
+pub mod Keeping
 pub mod Books

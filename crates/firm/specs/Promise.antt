@@ -1,11 +1,12 @@
 -- What is owed of a program that keeps the books: statements about any keeper, proved for the one that runs where its contracts name them.
 -- Definitions only: nothing is assumed.
-use Rattle.std.specs.Prelude.{◌≡◌, ℕ, ◌+◌, ◌*◌, ◌<◌, ◌≤◌, Bool, true, ◌&&◌, ◌||◌, List, [], ◌∷◌, ◌++◌, length, ◌==◌, nat_le, nat_lt}
+use Rattle.std.specs.Prelude.{◌≡◌, ℕ, ◌+◌, ◌*◌, ◌<◌, ◌≤◌, Bool, true, ◌&&◌, List, [], ◌∷◌, ◌++◌, length, nat_lt}
 use Rattle.firm.specs.Firm.{new_firm}
 use Rattle.firm.specs.Calls.{Call, Answer, Limits, all_readable}
 use Rattle.firm.specs.Refusals.{turned}
 use Rattle.firm.specs.Answers.{answers, ran}
 
+-- limits that books may be opened with; 0 is a good limit
 abbrev pub GoodLimits : Limits → Type 0
 GoodLimits l = (l.items ≤ 4096) × (l.orders ≤ 65536) × (l.lots ≤ 65536) × (l.parts ≤ 65536) × (l.entries ≤ 1000000)
 
@@ -18,6 +19,7 @@ pub record Keeper : Type 0 where
   pub next : Memory → Call → Memory
   pub says : Memory → Call → Answer
 
+-- what a keeper answers to a list of calls, and the memory that it leaves
 unfoldable pub told_by : Keeper → Memory → List Call → List Answer
 told_by k m [] = []
 told_by k m (c ∷ cs) = k.says m c ∷ told_by k (k.next m c) cs
@@ -48,9 +50,6 @@ EnoughMemory k =
     (length (left_by k (k.opened l) cs).words ≤ 8 * (l.items + l.orders + l.lots + l.parts + l.entries) + 2048)
     × (all_below 18446744073709551616 (left_by k (k.opened l) cs).words ≡ true)
 
--- which calls a stage can do. The first one orders to buy, has goods come, and asks; the whole can do every call
-abbrev pub thin : ℕ → Bool
-thin k = k == 0 || (k == 2 || (nat_le 11 k && nat_le k 14))
-
+-- which calls a stage can do: the whole stage can do every call
 abbrev pub whole : ℕ → Bool
 whole k = true
