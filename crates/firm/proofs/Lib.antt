@@ -14,3 +14,5 @@ pub mod Bounds
 pub mod Keeping
 pub mod Known
 pub mod Turned
+pub mod Counting
+pub mod ItemLots

@@ -1,7 +1,7 @@
 -- Statement 6: what is made costs what went into it, and is on hand. Assumes nothing.
 use Rattle.std.proofs.Common.{◌≡◌, ℕ, ◌+◌, ◌*◌, ◌<◌, true, ◌&&◌, eqb, ltb, leb, ◌≢◌, List, [], ◌∷◌, ◌++◌, length, sym, refl, ◌∙◌, subst, append-nil, arith}
 use Rattle.std.proofs.lemmas.Bool.{and_parts, ltb-true, eqb-true, eq-eqb}
-use Rattle.firm.specs.Stock.{pick, Lot, Part, Taken, take, take_all, on_hand, all_worth}
+use Rattle.firm.specs.Stock.{pick, Lot, Part, Taken, take, take_all, on_hand, worth, all_worth}
 use Rattle.firm.specs.Firm.{Firm, Recipe, recipe}
 use Rattle.firm.specs.Calls.{Call, buys, sells, comes, goes, billed_by, bills, pays_out, pays_in, made_of, makes, counted, stock_of, account, order, lots_of, entries_from, garbled, Limits, call_number}
 use Rattle.firm.specs.Changes.{changed}
@@ -9,19 +9,21 @@ use Rattle.firm.specs.Refusals.{good_parts, good_fields, good_call, turned}
 use Rattle.firm.specs.Statements.{MadeCosts}
 use Rattle.firm.proofs.Picks.{pick-both, pick_true, counts}
 use Rattle.firm.proofs.Cases.{counted_cases, reached_keeps}
-use Rattle.firm.proofs.Taking.{take_keeps}
+use Rattle.firm.proofs.Taking.{take_keeps, take_worth_other}
 use Rattle.firm.proofs.RecipeTaking.{recipe_taking_keeps}
-use Rattle.firm.proofs.Ledger.{worth_push, on_hand_push}
+use Rattle.firm.proofs.Ledger.{worth_push, on_hand_push, item_worth_push}
 
--- all parts are of smaller items, so what is made is not taken
-pub take_all_other : (ls : List Lot) (ps : List Part) (q i : ℕ) → good_parts ps i ≡ true → on_hand (take_all ls ps q).left i ≡ on_hand ls i
+-- all parts are of smaller items, so of what is made no piece is taken, and no cent
+pub take_all_other : (ls : List Lot) (ps : List Part) (q i : ℕ) → good_parts ps i ≡ true →
+    (on_hand (take_all ls ps q).left i ≡ on_hand ls i) × (worth (take_all ls ps q).left i ≡ worth ls i)
 unfolding take_all good_parts
-take_all_other ls [] q i h = refl
+take_all_other ls [] q i h = (refl, refl)
 take_all_other ls (p ∷ ps) q i h =
     let both = and_parts (ltb p.item i && (leb 1 p.each && leb p.each 1000)) (good_parts ps i) h in
     let smaller : p.item < i = ltb-true p.item i (and_parts (ltb p.item i) (leb 1 p.each && leb p.each 1000) both.0).0 in
     let t : Taken = take ls p.item (p.each * q) in
-    take_all_other t.left ps q i both.1 ∙ (take_keeps ls p.item (p.each * q)).4 i (apart smaller)
+    let more = take_all_other t.left ps q i both.1 in
+    (more.0 ∙ (take_keeps ls p.item (p.each * q)).4 i (apart smaller), more.1 ∙ take_worth_other ls p.item (p.each * q) i (apart smaller))
   where
     apart : {a b : ℕ} → a < b → b ≢ a
     apart h e = omega arith
@@ -72,7 +74,9 @@ makeable_keeps l f (garbled n) g h = h
 
 -- what statement 6 says of what became of f
 abbrev Made : Firm → ℕ → ℕ → Firm → Type 0
-Made f i q g = (all_worth g.lots ≡ all_worth f.lots) × (g.entries ≡ f.entries) × (on_hand g.lots i ≡ on_hand f.lots i + q)
+Made f i q g =
+    (all_worth g.lots ≡ all_worth f.lots) × (g.entries ≡ f.entries) × (on_hand g.lots i ≡ on_hand f.lots i + q)
+    × (worth g.lots i ≡ worth f.lots i + (take_all f.lots (recipe f.recipes i []) q).cost)
 
 changed_made : (f : Firm) (i q : ℕ) → GoodRecipes f.recipes → Made f i q (changed f (makes i q))
 unfolding changed good_parts
@@ -80,7 +84,12 @@ changed_made f i q h =
     let ps : List Part = recipe f.recipes i [] in
     let none = take_all_other f.lots ps q i (good_recipe f.recipes i [] h refl) in
     let cents = (recipe_taking_keeps f.lots ps q).0 in
-    (rw worth_push (omega arith), append-nil f.entries, rw on_hand_push (omega (arith, counts i i q refl)))
+    let cost : ℕ = (take_all f.lots ps q).cost in (
+      rw worth_push (omega arith),
+      append-nil f.entries,
+      rw on_hand_push (omega (arith, counts i i q refl)),
+      rw item_worth_push (omega (arith, counts i i cost refl)),
+    )
 
 pub made_costs : MadeCosts
 unfolding GoodRecipes

@@ -1,7 +1,7 @@
 -- Statements 2 and 3: taking loses nothing, and the oldest goes first. Assumes nothing.
-use Rattle.std.proofs.Common.{◌≡◌, ℕ, ◌+◌, ◌-◌, ◌*◌, ◌/◌, ◌<◌, ◌≤◌, ◌≢◌, List, [], ◌∷◌, ◌++◌, sym, refl, ap, append_assoc, le_of_lt, mul-le-mul_left, arith}
+use Rattle.std.proofs.Common.{◌≡◌, ℕ, ◌+◌, ◌-◌, ◌*◌, ◌/◌, ◌<◌, ◌≤◌, ◌≢◌, List, [], ◌∷◌, ◌++◌, sym, refl, ap, ◌∙◌, append_assoc, le_of_lt, mul-le-mul_left, arith}
 use native.Mathlib.Nat.{div-le_of_le-mul}
-use Rattle.firm.specs.Stock.{Lot, Taken, take, on_hand, all_worth}
+use Rattle.firm.specs.Stock.{Lot, Taken, take, on_hand, worth, all_worth}
 use Rattle.firm.specs.Statements.{TakingKeeps, OldestFirst}
 use Rattle.firm.proofs.Picks.{counts, counts_not}
 use Rattle.firm.proofs.Cases.{take_cases, rest_of}
@@ -41,6 +41,17 @@ take_keeps (l ∷ ls) i q =
   where
     apart : {a b j : ℕ} → a ≡ b → j ≢ b → a ≢ j
     apart e n d = omega arith
+
+-- of every other item no cent is taken
+pub take_worth_other : (ls : List Lot) (i q j : ℕ) → j ≢ i → worth (take ls i q).left j ≡ worth ls j
+unfolding take worth
+take_worth_other [] i q j n = refl
+take_worth_other (l ∷ ls) i q j n =
+    take_cases l ls i q (λ t. worth t.left j ≡ worth (l ∷ ls) j)
+    (λ _. refl)
+    (λ _ _. omega (arith, take_worth_other ls i q j n))
+    (λ _ e _. omega (arith, take_worth_other ls i (q - l.pieces) j n, counts_not l.item j l.cost (λ d. n (sym d ∙ e))))
+    (λ _ e _. omega (arith, counts_not l.item j l.cost (λ d. n (sym d ∙ e)), counts_not i j (l.cost - l.cost * q / l.pieces) (λ d. n (sym d))))
 
 pub taking_keeps : TakingKeeps
 taking_keeps = take_keeps

@@ -1,7 +1,8 @@
--- What a program that keeps the books in words of 64 bits leans on: what is reached fits, numbers and products stay small, and what is lacking is
--- what is not on hand. Each is a theorem that the contract of a function in src/laws.rt names. Definitions only: nothing is assumed.
+-- What a program that keeps the books in words of 64 bits leans on: what is reached fits, numbers and products stay small, what is lacking is
+-- what is not on hand, and an item's lots come to its stock. Each is a theorem that the contract of a function in src/laws.rt names.
+-- Definitions only: nothing is assumed.
 use Rattle.std.specs.Prelude.{◌≡◌, ℕ, ◌-◌, ◌*◌, ◌^◌, ◌<◌, ◌≤◌, true, ◌⊎◌, List, [], ◌∷◌, ◌++◌, length}
-use Rattle.firm.specs.Stock.{Lot, take, on_hand}
+use Rattle.firm.specs.Stock.{Lot, take, on_hand, worth, all_worth, of_item}
 use Rattle.firm.specs.Firm.{Order, Firm, the_order}
 use Rattle.firm.specs.Calls.{Limits}
 use Rattle.firm.specs.Refusals.{fits}
@@ -10,6 +11,10 @@ use Rattle.firm.specs.Statements.{Reached}
 -- what is lacking is what was wanted less what was on hand
 abbrev pub LackingIs : Type 0
 LackingIs = (ls : List Lot) (i q : ℕ) → (take ls i q).lacking ≡ q - on_hand ls i
+
+-- the lots that an item is said to have come to what its stock is said to be
+abbrev pub LotsComeToStock : Type 0
+LotsComeToStock = (ls : List Lot) (i : ℕ) → (on_hand (of_item ls i) i ≡ on_hand ls i) × (all_worth (of_item ls i) ≡ worth ls i)
 
 -- all that is reached is within the limits
 abbrev pub ReachedFits : Type 0

@@ -1,10 +1,10 @@
--- What holds of the books: eight statements about the meaning, and what the second says of one item said of a whole recipe. Each is a theorem
+-- What holds of the books: eight statements about the meaning, the second also of a whole recipe; and what a count leaves. Each is a theorem
 -- that the contract of a function in src/statements.rt names. Definitions only: nothing is assumed.
 use Rattle.std.specs.Prelude.{◌≡◌, ℕ, zero, suc, ◌+◌, ◌-◌, ◌*◌, ◌<◌, ◌≤◌, Bool, true, false, ◌&&◌, ◌||◌, ◌≢◌, List, [], ◌∷◌, ◌++◌, ◌==◌, nat_le}
 use Rattle.firm.specs.Stock.{pick, Lot, Taken, take, on_hand, worth, all_worth, Part, take_all}
 use Rattle.firm.specs.Ledger.{Entry, left_side, right_side}
-use Rattle.firm.specs.Firm.{Order, Firm, new_firm}
-use Rattle.firm.specs.Calls.{Call, makes, Limits}
+use Rattle.firm.specs.Firm.{Order, Firm, new_firm, recipe}
+use Rattle.firm.specs.Calls.{Call, makes, counted, Limits}
 use Rattle.firm.specs.Refusals.{turned}
 use Rattle.firm.specs.Answers.{after, answers, ran}
 
@@ -30,6 +30,35 @@ TakingKeeps =
     let t : Taken = take ls i q in
     (all_worth t.left + t.cost ≡ all_worth ls) × (all_worth t.parts ≡ t.cost) × (on_hand t.parts i + t.lacking ≡ q)
     × (on_hand t.left i + on_hand t.parts i ≡ on_hand ls i) × ((j : ℕ) → j ≢ i → on_hand t.left j ≡ on_hand ls j)
+
+-- all pieces of some lots, whatever the item
+unfoldable pub all_pieces : List Lot → ℕ
+all_pieces [] = 0
+all_pieces (l ∷ ls) = l.pieces + all_pieces ls
+
+-- how many pieces the parts of a recipe ask for in all, for q pieces
+unfoldable pub asked : List Part → ℕ → ℕ
+asked [] q = 0
+asked (p ∷ ps) q = p.each * q + asked ps q
+
+-- an item is one of a recipe's; all lots are of its items
+unfoldable pub in_recipe : List Part → ℕ → Bool
+in_recipe [] i = false
+in_recipe (p ∷ ps) i = p.item == i || in_recipe ps i
+
+unfoldable pub all_in_recipe : List Part → List Lot → Bool
+all_in_recipe ps [] = true
+all_in_recipe ps (l ∷ ls) = in_recipe ps l.item && all_in_recipe ps ls
+
+-- 2, for a recipe: cents taken and left are those that were there, all together and of each item; so are the pieces of each
+-- item; what is said to have been taken is what was taken, is all that was asked for but what was lacking, and is of the recipe's items alone
+abbrev pub RecipeTakingKeeps : Type 0
+RecipeTakingKeeps =
+    (ls : List Lot) (ps : List Part) (q : ℕ) →
+    let t : Taken = take_all ls ps q in
+    (all_worth t.left + t.cost ≡ all_worth ls) × (all_worth t.parts ≡ t.cost) × (all_pieces t.parts + t.lacking ≡ asked ps q)
+    × ((j : ℕ) → on_hand t.left j + on_hand t.parts j ≡ on_hand ls j) × ((j : ℕ) → worth t.left j + worth t.parts j ≡ worth ls j)
+    × (all_in_recipe ps t.parts ≡ true)
 
 -- 3. the oldest first: as long as an older lot of the item is left, nothing was taken from a younger one
 abbrev pub OldestFirst : Type 0
@@ -66,12 +95,14 @@ OpenOrders =
     (l : Limits) (f : Firm) → Reached l f →
     (right_side f.entries 1 ≡ left_side f.entries 1 + not_billed f.orders) × (left_side f.entries 3 ≡ billed_sales f.orders)
 
--- 6. what is made costs what went into it, to the cent, and nothing is entered
+-- 6. what is made costs what went into it, to the cent: its item's lots cost as much more as the parts that were taken, all lots cost what they
+-- did, and nothing is entered
 abbrev pub MadeCosts : Type 0
 MadeCosts =
     (l : Limits) (f : Firm) (i q : ℕ) → Reached l f → turned l f (makes i q) ≡ 0 →
     (all_worth (after l f (makes i q)).lots ≡ all_worth f.lots) × ((after l f (makes i q)).entries ≡ f.entries)
     × (on_hand (after l f (makes i q)).lots i ≡ on_hand f.lots i + q)
+    × (worth (after l f (makes i q)).lots i ≡ worth f.lots i + (take_all f.lots (recipe f.recipes i []) q).cost)
 
 -- 7. entries stay as they are: no call changes one or takes one away
 abbrev pub EntriesStay : Type 0
@@ -81,30 +112,8 @@ EntriesStay = (l : Limits) (f : Firm) (c : Call) → (es : List Entry) × ((afte
 abbrev pub TurnedAway : Type 0
 TurnedAway = (l : Limits) (f : Firm) (c : Call) (cs : List Call) → 0 < turned l f c → answers l (after l f c) cs ≡ answers l f cs
 
--- all pieces of some lots, whatever the item; and of the parts of a recipe, for q pieces
-unfoldable pub all_pieces : List Lot → ℕ
-all_pieces [] = 0
-all_pieces (l ∷ ls) = l.pieces + all_pieces ls
-
-unfoldable pub asked : List Part → ℕ → ℕ
-asked [] q = 0
-asked (p ∷ ps) q = p.each * q + asked ps q
-
--- an item is one of a recipe's; all lots are of its items
-unfoldable pub in_recipe : List Part → ℕ → Bool
-in_recipe [] i = false
-in_recipe (p ∷ ps) i = p.item == i || in_recipe ps i
-
-unfoldable pub all_in_recipe : List Part → List Lot → Bool
-all_in_recipe ps [] = true
-all_in_recipe ps (l ∷ ls) = in_recipe ps l.item && all_in_recipe ps ls
-
--- THE SECOND STATEMENT FOR A RECIPE: cents taken and left are those that were there, all together and of each item; so are the pieces of each
--- item; what is said to have been taken is what was taken, is all that was asked for but what was lacking, and is of the recipe's items alone
-abbrev pub RecipeTakingKeeps : Type 0
-RecipeTakingKeeps =
-    (ls : List Lot) (ps : List Part) (q : ℕ) →
-    let t : Taken = take_all ls ps q in
-    (all_worth t.left + t.cost ≡ all_worth ls) × (all_worth t.parts ≡ t.cost) × (all_pieces t.parts + t.lacking ≡ asked ps q)
-    × ((j : ℕ) → on_hand t.left j + on_hand t.parts j ≡ on_hand ls j) × ((j : ℕ) → worth t.left j + worth t.parts j ≡ worth ls j)
-    × (all_in_recipe ps t.parts ≡ true)
+-- after a count the books have as many pieces of the item as were counted, and of every other item as many as before
+abbrev pub CountedThere : Type 0
+CountedThere =
+    (l : Limits) (f : Firm) (i q : ℕ) → turned l f (counted i q) ≡ 0 →
+    (on_hand (after l f (counted i q)).lots i ≡ q) × ((j : ℕ) → j ≢ i → on_hand (after l f (counted i q)).lots j ≡ on_hand f.lots j)

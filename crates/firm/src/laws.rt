@@ -1,11 +1,16 @@
 //! Laws of the books that a program which keeps them in 64 bits leans on.
 
-ghost use Rattle.firm.specs.Laws.{LackingIs, ReachedFits, LotsSmall, ProductsSmall, OrdersKnown};
+ghost use Rattle.firm.specs.Laws.{LackingIs, LotsComeToStock, ReachedFits, LotsSmall, ProductsSmall, OrdersKnown};
 
 /// What is lacking is what was wanted less what was on hand.
 #[tactic(auto, using(crate::proofs::Bounds::take_lacking))]
 pub fn lacking_is_stands()
     ensures { LackingIs }
+{}
+
+/// The lots that an item is said to have come to what its stock is said to be.
+pub fn lots_come_to_stock_stands()
+    ensures { LotsComeToStock }
 {}
 
 /// All that is reached is within the limits.

@@ -1,6 +1,6 @@
 //! What holds of the books, for every list of calls. Each contract is a theorem; the functions do nothing.
 
-ghost use Rattle.firm.specs.Statements.{Balanced, TakingKeeps, OldestFirst, InThreeWays, OpenOrders, MadeCosts, EntriesStay, TurnedAway, RecipeTakingKeeps};
+ghost use Rattle.firm.specs.Statements.{Balanced, TakingKeeps, OldestFirst, InThreeWays, OpenOrders, MadeCosts, EntriesStay, TurnedAway, RecipeTakingKeeps, CountedThere};
 
 /// 1. The books balance, and the stock account is what the lots cost.
 pub fn balanced_stands()
@@ -10,6 +10,11 @@ pub fn balanced_stands()
 /// 2. Taking loses no piece and no cent, and says truly what was taken.
 pub fn taking_keeps_stands()
     ensures { TakingKeeps }
+{}
+
+/// 2, for a whole recipe, of every item.
+pub fn recipe_taking_keeps_stands()
+    ensures { RecipeTakingKeeps }
 {}
 
 /// 3. From a younger lot nothing is taken as long as an older one of the item is left.
@@ -28,7 +33,7 @@ pub fn open_orders_stands()
     ensures { OpenOrders }
 {}
 
-/// 6. What is made costs what went into it, to the cent.
+/// 6. What is made costs what went into it, to the cent: its item's lots cost so much more.
 #[tactic(auto, using(crate::proofs::Making::made_costs))]
 pub fn made_costs_stands()
     ensures { MadeCosts }
@@ -46,7 +51,7 @@ pub fn turned_away_stands()
     ensures { TurnedAway }
 {}
 
-/// The second for a whole recipe, of every item.
-pub fn recipe_taking_keeps_stands()
-    ensures { RecipeTakingKeeps }
+/// After a count the books have as many pieces of the item as were counted, and of every other item as many as before.
+pub fn counted_there_stands()
+    ensures { CountedThere }
 {}
