@@ -1,5 +1,6 @@
 -- The accounts, by their numbers, and what they are called. Definitions only: nothing is assumed.
-use Rattle.std.specs.Prelude.{ℕ, List, [], ◌∷◌, codes, slice_index_or}
+use Rattle.std.specs.Prelude.{◌≡◌, ℕ, List, [], ◌∷◌, map, length, codes, slice_index_or}
+use Rattle.std.specs.List.{range_with_len}
 use Rattle.records.specs.declared.account.Account.{Account}
 use Rattle.records.specs.declared.account.Account.TheVariants.{Stock, NotBilled, Suppliers, Customers, Bank, Sales, CostOfSales, Differences, Losses}
 
@@ -13,6 +14,10 @@ number_of Sales = 5
 number_of CostOfSales = 6
 number_of Differences = 7
 number_of Losses = 8
+
+-- the k-th of some accounts has the number k
+abbrev pub InOrder : List Account → Type 0
+InOrder accounts = map number_of accounts ≡ range_with_len 0 (length accounts)
 
 abbrev pub account_names : List (List ℕ)
 account_names =

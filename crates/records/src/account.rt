@@ -1,7 +1,7 @@
 //! The accounts, by number and name.
 
 ghost use Rattle.std.specs.Prelude.{◌≡◌, Some};
-ghost use Rattle.records.specs.Accounts.{number_of, account_name};
+ghost use Rattle.records.specs.Accounts.{number_of, InOrder, account_name};
 
 use std::fmt;
 
@@ -33,6 +33,11 @@ impl Account {
         Account::Losses,
     ];
 }
+
+/// The k-th of all accounts has the number k.
+pub fn accounts_in_order_stands()
+    ensures { InOrder Account.ALL }
+{}
 
 /// The number that calls and entries name it by.
 impl From<Account> for u32 {

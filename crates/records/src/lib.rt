@@ -17,7 +17,7 @@ mod split_record;
 mod stock;
 mod words;
 
-pub use account::Account;
+pub use account::{Account, accounts_in_order_stands};
 pub use balance::Balance;
 pub use entry::Entry;
 pub use lot::Lot;
