@@ -17,12 +17,13 @@ use Rattle.firm.proofs.Staying.{entries_stay}
 use Rattle.layout.specs.declared.head.Counter.TheVariants.{Orders, Entries}
 use Rattle.layout.specs.declared.head.Total.TheVariants.{Worth}
 use Rattle.memory.specs.Books.{count_of, total_of, balance_of, order_record, entry_record}
+use Rattle.questions.specs.Entries.{entry_of}
 use Rattle.records.specs.Kinds.{order_kind, entry_kind}
 use Rattle.records.specs.State.{State}
 use Rattle.store.specs.View.{Table}
 use Rattle.session.specs.Agreeing.{orders_in, entries_in, Agrees, memory_after, LedgerAgrees, EntriesKept}
 use Rattle.session.specs.Keeper.{keeper, state_of, Standing, for_all_calls}
-use Rattle.session.specs.Means.{limits_of, order_of, entry_of, Means}
+use Rattle.session.specs.Means.{limits_of, order_of, Means}
 use Rattle.session.proofs.Keeping.{all_steps, split_back}
 
 -- what is read by number, from the number a on, is what stands in a list

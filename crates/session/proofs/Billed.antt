@@ -17,6 +17,7 @@ use Rattle.layout.specs.declared.head.Counter.TheVariants.{Orders, Entries}
 use Rattle.layout.specs.declared.head.Total.TheVariants.{Documents, Booked}
 use Rattle.layout.specs.declared.limits.Limits as memory
 use Rattle.memory.specs.Books.{count_of, total_of, order_record, put_order}
+use Rattle.questions.specs.Entries.{entry_of}
 use Rattle.records.specs.State.{State, state}
 use Rattle.records.specs.declared.order.Order.{Order}
 use Rattle.rules.specs.Billing.{billed_more, bill_fits, booked, order_billed}
@@ -26,7 +27,7 @@ use Rattle.store.specs.Laws.{with_orders, with_entries, with_total, with_balance
 use Rattle.store.specs.Steps.{After, after, set_order}
 use Rattle.store.specs.View.{Kept, Stands}
 use Rattle.store.proofs.OrderLaws.{sets_order}
-use Rattle.session.specs.Means.{Means, order_of, entry_of, limits_of, Sized}
+use Rattle.session.specs.Means.{Means, order_of, limits_of, Sized}
 use Rattle.session.proofs.Entering.{Entered}
 use Rattle.session.proofs.Ordered.{documents_are, entries_are, in_all, at_k, same, known}
 use Rattle.session.proofs.Steps.{raised_stands}

@@ -9,6 +9,7 @@ use Rattle.firm.specs.Firm.{Firm}
 use Rattle.firm.specs.Statements.{all_pieces}
 use Rattle.firm.proofs.Bounds.{take_lacking}
 use Rattle.firm.proofs.Cases.{take_cases}
+use Rattle.firm.proofs.ItemLots.{lots_come_to_stock}
 use Rattle.firm.proofs.Taking.{take_keeps}
 use Rattle.firm.proofs.Ledger.{left_append, right_append, on_hand_push, item_worth_push}
 use Rattle.firm.proofs.Picks.{pick-both}
@@ -18,6 +19,7 @@ use Rattle.links.specs.Model.{row}
 use Rattle.links.proofs.Counts.{total_row}
 use Rattle.links.proofs.View.{end_is}
 use Rattle.memory.specs.Books.{lot_record}
+use Rattle.questions.specs.Entries.{entry_of}
 use Rattle.questions.specs.Listing.{lot_of, lots_step}
 use Rattle.std.specs.List.{fold}
 use Rattle.records.specs.Kind.{word, lies}
@@ -30,7 +32,7 @@ use Rattle.records.specs.declared.stock.Stock.{Stock}
 use Rattle.store.specs.Laws.{stock_with, stock_without, balance_with}
 use Rattle.store.specs.Steps.{sum, more_stock, less_stock}
 use Rattle.taking.proofs.OneItem.{one_item}
-use Rattle.session.specs.Means.{Means, entry_of, stock_sums, account_sums, Sized}
+use Rattle.session.specs.Means.{Means, stock_sums, account_sums, Sized}
 
 -- ONE OF ALL: what an item's lots cost is no more than all cost, and so with a side of an account
 pub worth_most : (ls : List stock.Lot) (i : ℕ) → worth ls i ≤ all_worth ls
@@ -63,13 +65,7 @@ on_hand_is (x ∷ ls) i = at (eqb x.item i) (on_hand_is ls i)
     at false e = omega (arith, e)
 
 worth_is : (ls : List stock.Lot) (i : ℕ) → worth ls i ≡ all_worth (of_item ls i)
-unfolding worth all_worth of_item
-worth_is [] i = refl
-worth_is (x ∷ ls) i = at (eqb x.item i) (worth_is ls i)
-  where
-    at : (b : Bool) → worth ls i ≡ all_worth (of_item ls i) → pick b x.cost 0 + worth ls i ≡ all_worth (pick b (x ∷ of_item ls i) (of_item ls i))
-    at true e = omega (arith, e)
-    at false e = omega (arith, e)
+worth_is ls i = sym (lots_come_to_stock ls i).1
 
 -- a lot has fewer than 2 ^ 32 pieces, being read from a word
 lot_pieces_small : (l : Limits) (c : ℕ) (s : State) → Sized l s → (lot_record l c s).pieces < 2 ^ 32

@@ -9,6 +9,7 @@ use Rattle.layout.specs.Layout.{Good}
 use Rattle.layout.specs.declared.head.Counter.TheVariants.{Entries}
 use Rattle.layout.specs.declared.limits.Limits.{Limits}
 use Rattle.memory.specs.Books.{count_of}
+use Rattle.questions.specs.Entries.{entry_of}
 use Rattle.records.specs.State.{State, state}
 use Rattle.records.specs.declared.balance.Balance.{Balance}
 use Rattle.records.specs.declared.entry.Entry.{Entry}
@@ -18,7 +19,7 @@ use Rattle.store.specs.Steps.{After, entry_placed, post}
 use Rattle.store.specs.View.{Kept, Stands}
 use Rattle.store.proofs.EntryLaws.{adds_entry}
 use Rattle.store.proofs.SumLaws.{posts}
-use Rattle.session.specs.Means.{entry_of, account_sums, Sized}
+use Rattle.session.specs.Means.{account_sums, Sized}
 use Rattle.session.proofs.Counting.{balance_more}
 use Rattle.session.proofs.Small.{SmallEntry, sized_entry_placed, sized_post}
 

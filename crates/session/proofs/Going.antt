@@ -24,6 +24,7 @@ use Rattle.layout.specs.Layout.{Good}
 use Rattle.layout.specs.declared.head.Counter.TheVariants.{Orders, Entries}
 use Rattle.layout.specs.declared.head.Total.TheVariants.{Documents, Booked, Worth}
 use Rattle.memory.specs.Books.{count_of, total_of, order_record, put_order, stock_of}
+use Rattle.questions.specs.Entries.{entry_of}
 use Rattle.records.specs.Kinds.{order_kind}
 use Rattle.records.specs.State.{State, state}
 use Rattle.records.specs.declared.entry.Entry.{Entry}
@@ -46,7 +47,7 @@ use Rattle.taking.specs.declared.wants.Want.{Want}
 use Rattle.taking.proofs.AllTaking.{one_wanted}
 use Rattle.taking.proofs.Costing.{costs}
 use Rattle.taking.proofs.TakingLaws.{takes}
-use Rattle.session.specs.Means.{Means, order_of, entry_of, limits_of, Sized}
+use Rattle.session.specs.Means.{Means, order_of, limits_of, Sized}
 use Rattle.session.proofs.Counting.{stock_less, take_few}
 use Rattle.session.proofs.Entering.{Entered, enters}
 use Rattle.session.proofs.Steps.{raised_stands, lowered_stands}

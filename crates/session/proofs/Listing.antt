@@ -19,7 +19,7 @@ use Rattle.layout.specs.Layout.{answer_need}
 use Rattle.layout.specs.declared.head.Counter.TheVariants.{Entries}
 use Rattle.layout.specs.declared.limits.Limits as memory
 use Rattle.memory.specs.Books.{count_of, entry_record}
-use Rattle.questions.specs.Entries.{entries_met, entries_written}
+use Rattle.questions.specs.Entries.{entry_of, entries_met, entries_written}
 use Rattle.questions.proofs.CountedDown.{entries_few}
 use Rattle.records.specs.Kinds.{entry_kind}
 use Rattle.records.specs.State.{State}
@@ -30,7 +30,7 @@ use Rattle.wire.specs.Answers.{bytes_of_answer}
 use Rattle.wire.specs.Statements.{lot_count, entry_count}
 use Rattle.wire.proofs.ListLaws.{answers_fit}
 use Rattle.session.specs.Calling.{entries_told, Said, taken}
-use Rattle.session.specs.Means.{Means, entry_of, limits_of}
+use Rattle.session.specs.Means.{Means, limits_of}
 use Rattle.session.proofs.Saying.{said_by, some_item}
 use Rattle.session.proofs.Turning.{Done, refuses, goes}
 

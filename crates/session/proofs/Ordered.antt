@@ -13,11 +13,12 @@ use Rattle.firm.proofs.Picks.{pick_true, pick_false}
 use Rattle.layout.specs.declared.head.Counter.TheVariants.{Orders, Entries}
 use Rattle.layout.specs.declared.head.Total.TheVariants.{Documents}
 use Rattle.memory.specs.Books.{count_of, total_of, order_record}
+use Rattle.questions.specs.Entries.{entry_of}
 use Rattle.records.specs.Kinds.{order_kind}
 use Rattle.records.specs.State.{State}
 use Rattle.records.specs.declared.order.Order.{Order}
 use Rattle.store.specs.View.{Kept}
-use Rattle.session.specs.Means.{Means, order_of, entry_of, limits_of}
+use Rattle.session.specs.Means.{Means, order_of, limits_of}
 
 module _ (l : Limits) (s : State) (f : Firm) (k : ℕ) (r : Reached l f) (h : Means (limits_of l) s f) where
   abbrev m : Kept

@@ -19,6 +19,7 @@ use Rattle.layout.specs.Layout.{Good}
 use Rattle.layout.specs.declared.head.Counter.TheVariants.{Entries}
 use Rattle.layout.specs.declared.head.Total.TheVariants.{Documents, Booked}
 use Rattle.memory.specs.Books.{count_of, total_of, balance_of}
+use Rattle.questions.specs.Entries.{entry_of}
 use Rattle.records.specs.State.{State, state}
 use Rattle.records.specs.declared.balance.Balance.{Balance}
 use Rattle.records.specs.declared.entry.Entry.{Entry}
@@ -29,7 +30,7 @@ use Rattle.rules.specs.Paying.{summed_paid, paid, pays_fits, pays, pays_out, pay
 use Rattle.rules.specs.Totals.{raised}
 use Rattle.store.specs.Laws.{with_entries, with_total, with_balances}
 use Rattle.store.specs.View.{Kept}
-use Rattle.session.specs.Means.{Means, entry_of, account_sums, limits_of}
+use Rattle.session.specs.Means.{Means, account_sums, limits_of}
 use Rattle.session.proofs.Entering.{Entered, enters}
 use Rattle.session.proofs.Steps.{raised_stands}
 use Rattle.session.proofs.Small.{sized_raised}

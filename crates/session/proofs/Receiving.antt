@@ -23,6 +23,7 @@ use Rattle.layout.specs.Layout.{Good}
 use Rattle.layout.specs.declared.head.Counter.TheVariants.{Orders, Entries}
 use Rattle.layout.specs.declared.head.Total.TheVariants.{Documents, Booked, Worth}
 use Rattle.memory.specs.Books.{count_of, total_of, order_record, put_order, lot_record}
+use Rattle.questions.specs.Entries.{entry_of}
 use Rattle.questions.specs.Listing.{lot_of}
 use Rattle.records.specs.Kinds.{order_kind}
 use Rattle.records.specs.State.{State, state}
@@ -40,7 +41,7 @@ use Rattle.store.specs.View.{Kept, Stands}
 use Rattle.store.proofs.LotLaws.{adds_lot, refuses_lot}
 use Rattle.store.proofs.OrderLaws.{sets_order}
 use Rattle.store.proofs.SumLaws.{counts_in}
-use Rattle.session.specs.Means.{Means, order_of, entry_of, limits_of, Sized}
+use Rattle.session.specs.Means.{Means, order_of, limits_of, Sized}
 use Rattle.firm.specs.Promise.{whole}
 use Rattle.session.proofs.Counting.{worth_most, on_hand_small, stock_more}
 use Rattle.session.proofs.Entering.{Entered, enters}

@@ -1,5 +1,5 @@
--- What the words stand for: a firm of the meaning. Said by what is kept, never by addresses; where a lot lies depends on the past, and may.
--- Definitions only: nothing is assumed.
+-- What the words stand for: a firm of the meaning. Said by what is kept, never by addresses; which cell a lot lies in
+-- depends on the calls before, and means nothing. Definitions only: nothing is assumed.
 use Rattle.std.specs.Prelude.{◌≡◌, ℕ, ◌^◌, ◌<◌, List, [], map, length, take, drop, slice_index}
 use Rattle.firm.specs.Stock as stock
 use Rattle.firm.specs.Stock.{on_hand, worth, all_worth, of_item}
@@ -11,10 +11,10 @@ use Rattle.firm.specs.Calls as calls
 use Rattle.layout.specs.Layout.{wide_need, narrow_need}
 use Rattle.layout.specs.declared.head.Total.TheVariants.{Documents, Booked, Worth}
 use Rattle.layout.specs.declared.limits.Limits.{Limits}
+use Rattle.questions.specs.Entries.{entry_of}
 use Rattle.questions.specs.Listing.{lot_of}
 use Rattle.records.specs.State.{State}
 use Rattle.records.specs.declared.balance.Balance.{Balance}
-use Rattle.records.specs.declared.entry.Entry.{Entry}
 use Rattle.records.specs.declared.order.Order.{Order}
 use Rattle.records.specs.declared.part.Part.{Part}
 use Rattle.records.specs.declared.recipe.Recipe.{Recipe}
@@ -24,9 +24,6 @@ use Rattle.store.specs.View.{Kept, Stands}
 -- records of memory as those of the books
 abbrev pub order_of : Order → firm.Order
 order_of x = record { sells = x.sells; item = x.item; pieces = x.pieces; price = x.price; moved = x.moved; billed = x.billed }
-
-abbrev pub entry_of : Entry → ledger.Entry
-entry_of x = record { on_left = x.left; on_right = x.right; amount = x.amount; document = x.«document» }
 
 abbrev pub part_of : Part → stock.Part
 part_of x = record { item = x.item; each = x.each }
