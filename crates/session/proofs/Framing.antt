@@ -1,9 +1,12 @@
 -- Rows of bytes behind their lengths: the first of them, and the rest. Assumes nothing.
-use Rattle.std.proofs.Common.{◌≡◌, ℕ, zero, suc, ◌<◌, ◌≤◌, min, Bool, true, false, cond, leb, List, [], ◌∷◌, length, take, drop, Some, None, refl, ap, ◌∙◌, ap₂, arith, length-drop}
+use Rattle.std.proofs.Common.{◌≡◌, ℕ, zero, suc, ◌^◌, ◌<◌, ◌≤◌, min, Bool, true, false, cond, ltb, leb, List, [], ◌∷◌, ◌++◌, length, take, drop, Some, None, sym, refl, ap, ◌∙◌, ap₂, append_assoc, arith, length-append, length-drop}
 use Rattle.std.proofs.lemmas.List.{take_all, drop_all, take_min, drop_min}
-use Rattle.std.proofs.lemmas.Bool.{leb-false}
-use Rattle.fields.specs.Bytes.{field_at}
-use Rattle.session.specs.Running.{first_row, rest_rows, rows_on, rows_of}
+use Rattle.std.proofs.Math.Seq.{take-append_seam, drop-append_seam}
+use Rattle.std.specs.List.{flat_map, list_all}
+use Rattle.std.proofs.lemmas.Bool.{and_parts, ltb-true, leb-false}
+use Rattle.fields.specs.Bytes.{value, field_bytes, field_at}
+use Rattle.fields.proofs.Numbers.{length_field, value_digits}
+use Rattle.session.specs.Running.{first_row, rest_rows, rows_on, rows_of, framed, RowsComeBack}
 
 -- what comes after a row is shorter
 rest_shorter : (bs : List ℕ) → 0 < length bs → length (rest_rows bs) < length bs
@@ -31,6 +34,36 @@ rows_next (b ∷ bs) lt =
 pub rows_none : rows_of [] ≡ []
 unfolding rows_of
 rows_none = refl
+
+-- THE OTHER WAY: a row that was framed is the first, and what stands behind it the rest
+framed_length : (row bs : List ℕ) → length row < 2 ^ 64 → field_at 0 (framed row ++ bs) ≡ length row
+unfolding field_at field_bytes
+framed_length row bs lt =
+    ap value (ap (take 8) (append_assoc (field_bytes (length row)) row bs)
+    ∙ ap (λ (k : ℕ). take k (field_bytes (length row) ++ (row ++ bs))) (sym (length_field (length row))) ∙ take-append_seam (field_bytes (length row)) (row ++ bs))
+    ∙ value_digits 8 (length row) lt
+
+framed_body : (row bs : List ℕ) → drop 8 (framed row ++ bs) ≡ row ++ bs
+framed_body row bs =
+    ap (drop 8) (append_assoc (field_bytes (length row)) row bs)
+    ∙ ap (λ (k : ℕ). drop k (field_bytes (length row) ++ (row ++ bs))) (sym (length_field (length row))) ∙ drop-append_seam (field_bytes (length row)) (row ++ bs)
+
+framed_some : (row bs : List ℕ) → 0 < length (framed row ++ bs)
+framed_some row bs =
+    omega (arith, length-append (framed row) bs, length-append (field_bytes (length row)) row, length_field (length row))
+
+framed_rows : (row bs : List ℕ) → length row < 2 ^ 64 → rows_of (framed row ++ bs) ≡ row ∷ rows_of bs
+framed_rows row bs lt =
+    rows_next (framed row ++ bs) (framed_some row bs)
+    ∙ ap₂ (λ (r q : List ℕ). r ∷ rows_of q)
+    (ap₂ (λ (n : ℕ) (r : List ℕ). take n r) (framed_length row bs lt) (framed_body row bs) ∙ take-append_seam row bs)
+    (ap₂ (λ (n : ℕ) (r : List ℕ). drop n r) (framed_length row bs lt) (framed_body row bs) ∙ drop-append_seam row bs)
+
+pub rows_come_back : RowsComeBack
+rows_come_back [] h = rows_none
+rows_come_back (row ∷ rows) h =
+    let both = and_parts (ltb (length row) (2 ^ 64)) (list_all (λ r. ltb (length r) (2 ^ 64)) rows) h in
+    framed_rows row (flat_map framed rows) (ltb-true (length row) (2 ^ 64) both.0) ∙ ap (λ (rs : List (List ℕ)). row ∷ rs) (rows_come_back rows both.1)
 
 -- AS THE CODE CUTS THEM: too few bytes for a length
 pub short_rows : (bs : List ℕ) → length bs < 8 → 0 < length bs → rows_of bs ≡ [] ∷ rows_of []

@@ -1,6 +1,6 @@
 -- A whole list of calls as bytes: each call behind its length in a field of eight bytes, and each answer likewise. Definitions only: nothing is assumed.
-use Rattle.std.specs.Prelude.{◌≡◌, ℕ, zero, suc, List, [], ◌∷◌, ◌++◌, map, length, take, drop, Some, None, Option}
-use Rattle.std.specs.List.{flat_map}
+use Rattle.std.specs.Prelude.{◌≡◌, ℕ, zero, suc, ◌^◌, true, List, [], ◌∷◌, ◌++◌, map, length, take, drop, Some, None, Option, nat_lt}
+use Rattle.std.specs.List.{flat_map, list_all}
 use Rattle.fields.specs.Bytes.{field_bytes, field_at}
 use Rattle.firm.specs.Firm.{Firm, new_firm}
 use Rattle.firm.specs.Calls as calls
@@ -34,6 +34,10 @@ rows_of bs = rows_on (length bs) bs
 -- a row behind its length
 abbrev pub framed : List ℕ → List ℕ
 framed row = field_bytes (length row) ++ row
+
+-- rows that were framed come back, each of fewer bytes than a length can say
+abbrev pub RowsComeBack : Type 0
+RowsComeBack = (rows : List (List ℕ)) → list_all (λ row. nat_lt (length row) (2 ^ 64)) rows ≡ true → rows_of (flat_map framed rows) ≡ rows
 
 -- limits of memory as those of the meaning, for this stage
 abbrev pub books_limits : Limits → calls.Limits

@@ -24,4 +24,5 @@ pub use opening::open;
 pub use promises::{
     answers_are_right, entries_are_kept, ledger_agrees, memory_suffices, refusals_keep,
 };
+pub use rows::rows_come_back_stands;
 pub use running::run;

@@ -2,7 +2,7 @@
 
 ghost use Rattle.std.specs.Prelude.{◌≡◌, ◌<◌, ◌∷◌, ◌++◌, length, OnOk};
 ghost use Rattle.fields.specs.Bytes.{field_at, field_bytes};
-ghost use Rattle.session.specs.Running.{rows_of, framed};
+ghost use Rattle.session.specs.Running.{rows_of, framed, RowsComeBack};
 ghost use Rattle.std.specs.Iterator.{YieldsFirstRef, item_count};
 
 use fields::FIELD;
@@ -50,6 +50,12 @@ impl<'a> Iterator for Rows<'a> {
         Some(row)
     }
 }
+
+/// Rows that were put one behind the other come back as they were.
+#[tactic(auto, using(crate::proofs::Framing::rows_come_back))]
+pub fn rows_come_back_stands()
+    ensures { RowsComeBack }
+{}
 
 /// Appends a row behind its length.
 pub fn put_row(out: &mut Vec<u8>, row: &[u8]) -> Result<(), AllocError>
