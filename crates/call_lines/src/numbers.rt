@@ -1,6 +1,6 @@
 //! The numbers of a call, up to the line's end.
 
-ghost use Rattle.std.specs.Prelude.{◌≡◌, ◌*◌, ◌^◌, ◌<◌};
+ghost use Rattle.std.specs.Prelude.{◌≡◌};
 ghost use Rattle.std.specs.Result.{result_map_both};
 ghost use Rattle.call_lines.specs.Numbers.{numbers};
 
@@ -8,7 +8,6 @@ use words::{read_end, read_number};
 
 /// Reads so many numbers and the line's end.
 pub fn read_numbers<const N: usize>(line: &[u8]) -> Result<[u64; N], &[u8]>
-    requires { N * 8 < 2 ^ 63 }
     ensures { result_map_both (λ ns. ns) (λ x. x.now) result ≡ numbers N line.now }
 {
     // Not `array::try_from_fn`: of a call that fails it does not say what was left of the line before it.
