@@ -1,4 +1,4 @@
--- How much memory books take, at most: 8 words or 64 bytes for each unit of the limits, and so much more.
+-- How much memory books take, at most: 8 words or 64 bytes for each unit of the limits, and 2,048 words or 16,384 bytes more.
 use Rattle.std.specs.Prelude.{◌+◌, ◌*◌, ◌≤◌}
 use Rattle.layout.specs.Layout.{Good, wide_need, narrow_need}
 use Rattle.layout.specs.declared.limits.Limits.{Limits}

@@ -43,7 +43,8 @@ count_at Lots = 19
 abbrev pub accounts_at : ℕ
 accounts_at = 32
 
--- then a row of 6 words for each item: its lots' row, its orders' row, its recipe; and one more, whose first row is that of the free lots
+-- then 6 words for each item: two for the row of its lots, two for that of its orders, two for its recipe; and 6 more, whose first two are for
+-- the row of the free lots
 abbrev pub items_at : ℕ
 items_at = 64
 
@@ -81,6 +82,7 @@ entry_at l k = entries_at l + 2 * k
 abbrev pub entry_links_at : Limits → ℕ
 entry_links_at l = entries_at l + 2 * l.entries
 
+-- how many narrow words the limits ask for
 abbrev pub narrow_need : Limits → ℕ
 narrow_need l = entry_links_at l + 2 * l.entries
 
@@ -115,6 +117,7 @@ wide_entries_at l = wide_lots_at l + 2 * l.lots
 abbrev pub wide_entry_at : Limits → ℕ → ℕ
 wide_entry_at l k = wide_entries_at l + 2 * k
 
+-- how many wide words the limits ask for
 abbrev pub wide_need : Limits → ℕ
 wide_need l = wide_entries_at l + 2 * l.entries
 

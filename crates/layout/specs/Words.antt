@@ -3,6 +3,7 @@ use Rattle.std.specs.Prelude.{◌≡◌, ℕ, ◌-◌, ◌%◌, cond, ◌≢◌,
 use Rattle.layout.specs.Layout.{accounts_at, items_at, orders_at, lots_at, parts_at, entries_at, entry_links_at, balances_at, stocks_at, wide_lots_at, wide_entries_at}
 use Rattle.layout.specs.declared.limits.Limits.{Limits}
 
+-- what a word can be part of
 pub data Owner : Type 0 where
   limits : Owner
   counters : Owner
@@ -29,6 +30,7 @@ order_owner j = cond (nat_lt j 6) orders order_links
 abbrev pub lot_owner : ℕ → Owner
 lot_owner j = cond (nat_lt j 2) lots lot_links
 
+-- whose the word at i of the narrow slice is
 unfoldable pub owner : Limits → ℕ → Owner
 owner l i =
     cond (nat_lt i 16) limits
@@ -38,6 +40,7 @@ owner l i =
     (cond (nat_lt i (lots_at l)) (order_owner ((i - orders_at l) % 8))
     (cond (nat_lt i (parts_at l)) (lot_owner ((i - lots_at l) % 4)) (cond (nat_lt i (entries_at l)) parts (cond (nat_lt i (entry_links_at l)) entries entry_links)))))))
 
+-- whose the word at i of the wide slice is
 unfoldable pub wide_owner : Limits → ℕ → Owner
 wide_owner l i = cond (nat_lt i balances_at) totals (cond (nat_lt i stocks_at) balances (cond (nat_lt i (wide_lots_at l)) stocks (cond (nat_lt i (wide_entries_at l)) lots entries)))
 

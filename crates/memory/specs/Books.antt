@@ -31,7 +31,7 @@ total_of t w = slice_index w (total_at t)
 unfoldable pub put_total : Total → ℕ → List ℕ → List ℕ
 put_total t x w = slice_set w (total_at t) x
 
--- RECORDS
+-- RECORDS: the k-th of each kind, and what putting one there leaves
 unfoldable pub order_record : Limits → ℕ → List ℕ → Order
 order_record l k n = read_narrow order_kind (order_at l k) n
 

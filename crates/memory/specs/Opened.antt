@@ -22,6 +22,7 @@ all_empty h n = emptied h.rows h 0 n
 unfoldable pub with_rows : Limits → List ℕ → List ℕ
 with_rows l n = all_empty (entry_rows l) (all_empty (order_rows l) (filled (lot_rows l) l.items (all_empty (lot_rows l) n)))
 
+-- the memory that opening leaves: zeros, the limits, and rows in which every lot is free
 unfoldable pub opened : Limits → State → State
 opened l s = state (zeroed (wide_need l) s.wide) (with_rows l (with_limits l (zeroed (narrow_need l) s.narrow)))
 

@@ -25,7 +25,7 @@ call_on h row = called (call_of row) (words_of h) h.answer.items
 abbrev pub answer_in : Called → Option (List ℕ)
 answer_in k = option_map (λ n. take n k.bytes) k.came
 
--- what it leaves in them
+-- what that call leaves in memory and in the bytes for its answer
 pub record HasLeft (old : Held) (row : List ℕ) (h : Held) : Type 0 where
   pub memory : words_of h ≡ (call_on old row).left
   pub bytes : h.answer.items ≡ (call_on old row).bytes
@@ -40,11 +40,11 @@ pub record Fresh (l : Limits) (h : Held) : Type 0 where
   pub opens : words_of h ≡ opened l before
   pub room : room_of h ≡ answer_need l
 
--- why there is none: limits out of range, and else nothing but want of memory
+-- why books could not be opened: limits out of range, and else nothing but want of memory
 abbrev pub unheld : Limits → RunError
 unheld l = cond (is_good l) OutOfMemory LimitsOutOfRange
 
--- that, in words
+-- the same in words
 abbrev pub failure_text : RunError → List ℕ
 failure_text LimitsOutOfRange = codes "limits out of range"
 failure_text OutOfMemory = codes "not enough memory"

@@ -1,4 +1,4 @@
--- Opening by a list of limits. Definitions only: nothing is assumed.
+-- Opening by a list of limits, and the numbers that opening and a call return to other languages. Definitions only: nothing is assumed.
 use Rattle.std.specs.Prelude.{ℕ, ℤ, pos, Some, None, Option, Ok, Err, Result}
 use Rattle.layout.specs.declared.limits.Limits.{Limits}
 use Rattle.memory.specs.Opened.{Opened, opening_of, opening}

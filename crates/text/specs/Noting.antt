@@ -13,6 +13,6 @@ use Rattle.text.specs.declared.tally.Tally.{Tally}
 abbrev pub CallNoted : List ℕ → State → ℕ → Tally → Tally → Type 0
 CallNoted row s room before after = (l : Limits) (f : Firm) (c : Call) → Standing l f s room → Sendable c → row ≡ bytes_of_call c → after ≡ noted before (answer l f c)
 
--- the answers to some calls are
+-- the answers to some calls are counted
 abbrev pub CallsNoted : List Call → State → ℕ → Tally → Tally → Type 0
 CallsNoted cs s room before after = (l : Limits) (f : Firm) → Standing l f s room → after ≡ tallied before (answers l f cs)

@@ -1,4 +1,4 @@
--- What holds of texts and tallies. Each is a statement whose proof is owed.
+-- What holds of texts and tallies. Each is a theorem that the contract of a function in src/laws.rt names. Definitions only: nothing is assumed.
 use Rattle.std.specs.Prelude.{◌≡◌, ℕ, ◌+◌, ◌-◌, ◌^◌, ◌<◌, min, Bool, true, false, cond, List, [], ◌∷◌, ◌++◌, ◌==◌, slice_index}
 use Rattle.firm.specs.Answers.{answers, ran}
 use Rattle.firm.specs.Calls.{Call, Answer, refused, number, two, lots, entries, Limits}

@@ -56,7 +56,7 @@ forms =
     ∷ two entries_from
     ∷ []
 
--- how many bytes a row of this form has. The count of a recipe that ends before it is as good as 0
+-- how many bytes a row of this form has. A recipe that ends before its count has none
 abbrev pub size : Form → List ℕ → ℕ
 size (one f) bs = 9
 size (two f) bs = 17

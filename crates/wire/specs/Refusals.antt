@@ -1,4 +1,4 @@
--- Why calls are turned away and numbers not known, in words. Definitions only: nothing is assumed.
+-- Why a call is turned away, in words, and what is said of a number that stands for nothing. Definitions only: nothing is assumed.
 use Rattle.std.specs.Prelude.{ℕ, List, codes}
 use Rattle.wire.specs.declared.refusal.Refusal.{Refusal}
 use Rattle.wire.specs.declared.refusal.Refusal.TheVariants.{Unreadable, BadField, NoRoom, NoSuchOrder, OtherKind, TooMany, NotOnHand, NoRecipe, OverLimits}
