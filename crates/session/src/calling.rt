@@ -20,7 +20,7 @@ use rules::Refused;
 use taking::Taken;
 use wire::{Call, Refusal};
 
-// That there is room for an answer is asked of three functions here, and of one in `questions`: it ties the limits to other bytes, so that a struct would have to lend both.
+// That there is room for an answer is asked of six functions here, and of two in `questions`: it ties the limits to other bytes, so that a struct would have to lend both.
 fn say_lots(view: View<'_>, item: u64, out: &mut [u8]) -> usize
     requires { answer_need view.limits ≤ length out.old }
     ensures { Said (lots_told view.entry.limits item (seen view.entry)) result out.old out.new }
