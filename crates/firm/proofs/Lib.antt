@@ -12,6 +12,7 @@ pub mod Worked
 pub mod Fitting
 pub mod Bounds
 pub mod Keeping
+pub mod Documents
 pub mod Known
 pub mod Turned
 pub mod Counting

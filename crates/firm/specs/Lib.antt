@@ -7,6 +7,7 @@ pub mod Refusals
 pub mod Answers
 pub mod Statements
 pub mod Laws
+pub mod Journal
 pub mod Promise
 pub mod Keeping
 pub mod Books

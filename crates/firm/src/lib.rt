@@ -4,11 +4,13 @@
 #![tactic(auto)]
 
 mod examples;
+mod journal;
 mod laws;
 mod promises;
 mod statements;
 
 pub use examples::worked_books_stands;
+pub use journal::journal_stands;
 pub use laws::{
     lacking_is_stands, lots_come_to_stock_stands, lots_small_stands, orders_known_stands,
     products_small_stands, reached_fits_stands,
