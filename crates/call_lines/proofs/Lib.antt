@@ -4,7 +4,7 @@ mod Stopping
 mod PlaceLaws
 mod Placing
 mod RecipeBytes
-mod LineLaws
+pub mod LineLaws
 mod NumberSteps
 mod NumberTrips
 mod RecipeTrips

@@ -1,8 +1,9 @@
-mod Splitting
+pub mod Splitting
 mod EntriesCarried
 mod Carried
 mod Sent
 mod Lined
-mod Going
-mod Noting
+mod Fated
+pub mod Going
+pub mod Noting
 mod Counting

@@ -40,7 +40,7 @@ module _ (row old : List ℕ) (s : State) where
         subst (λ (d : Call). Answered l f c old (called d s old)) (sym (ap call_of e ∙ comes_back c send))
         (called_means l s f c old h.good h.cans h.reached h.means h.enough)
 
-    gives : answer_in does ≡ Some (bytes_of_answer (answer l f c))
+    pub gives : answer_in does ≡ Some (bytes_of_answer (answer l f c))
     gives = rw (means.came, means.bytes) (ap Some (take_over (bytes_of_answer (answer l f c)) old))
 
     -- the bytes that it gives are those of the meaning's answer

@@ -3,5 +3,6 @@ pub mod Run
 pub mod Tallies
 pub mod Standing
 pub mod Noting
+pub mod Fates
 pub mod Books
 pub mod Statements

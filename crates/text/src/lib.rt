@@ -4,12 +4,14 @@
 
 mod answering;
 mod books;
+mod fate;
 mod laws;
 mod lines;
 mod running;
 mod tally;
 
 pub use books::Books;
+pub use fate::Fate;
 pub use laws::{line_by_line_stands, tally_counts_stands};
 pub use running::run;
 pub use session::RunError;

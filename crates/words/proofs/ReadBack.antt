@@ -50,13 +50,16 @@ plain_digits (c ∷ cs) h =
     let p = and_parts (is_ascii_digit c) (all_ascii_digits cs) h in
     and_from (not (gap c)) (plain cs) (digit_plain c p.0) (plain_digits cs p.1)
 
+pub decimal_digits : (n : ℕ) → n < 2 ^ 64 → all_ascii_digits (decimal n) ≡ true
+decimal_digits n h = digits_decimal own n h
+
 valued_decimal : (n : ℕ) → n < 2 ^ 64 → Some n ≡ valued (decimal n)
-valued_decimal n h = valued_well (decimal n) n (digits_decimal own n h) (decimal_nonempty n h) (digits_value-decimal own n h) h
+valued_decimal n h = valued_well (decimal n) n (decimal_digits n h) (decimal_nonempty n h) (digits_value-decimal own n h) h
 
 pub number_reads : (n : ℕ) (r : List ℕ) → n < 2 ^ 64 → ends r ≡ true → number (decimal n ++ r) ≡ Ok (n, r)
 unfolding number
 number_reads n r h e =
-    let p = plain_digits (decimal n) (digits_decimal own n h) in
+    let p = plain_digits (decimal n) (decimal_digits n h) in
     ap (λ (t : List ℕ). number_at (valued (word t)) t) (trim_of (decimal n) r p (decimal_nonempty n h))
     ∙ ap (λ (w : List ℕ). number_at (valued w) (decimal n ++ r)) (word_of (decimal n) r p e)
     ∙ ap (λ (o : Option ℕ). number_at o (decimal n ++ r)) (sym (valued_decimal n h))
