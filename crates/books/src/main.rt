@@ -1,4 +1,5 @@
-//! `books [--items N] [--orders N] [--lots N] [--parts N] [--entries N] [FILE]`: answers the calls of a file, or of standard input, a line each.
+//! `books [--items N] [--orders N] [--lots N] [--parts N] [--entries N] [--journal FILE] [CALLS]`: answers the calls of a file, or of standard input, a
+//! line each, on books that last in a journal if one is named.
 
 #![tactic(auto)]
 
@@ -8,7 +9,7 @@ use text::run;
 
 const BOOKS: Program = Program {
     name: "books",
-    does: "Answers the calls of FILE, or of standard input, a line each.",
+    does: "Answers the calls of the file CALLS, or of standard input, a line each.",
     by_line: true,
 };
 

@@ -1,4 +1,5 @@
--- What the arguments of the programs mean: options that widen the books, and a file of calls. Definitions only: nothing is assumed.
+-- What the arguments of the programs mean: options that widen the books, a journal that they last in, and a file of calls. Definitions only: nothing
+-- is assumed.
 use Rattle.std.specs.Prelude.{◌≡◌, ℕ, Bool, true, false, cond, List, [], ◌∷◌, Some, None, Ok, Err, codes, Option, Result, ◌++◌, decimal, ◌==◌, nat_le}
 use Rattle.std.specs.Option.{ok_or}
 use Rattle.std.specs.Str.{bytes_eq}
@@ -8,11 +9,9 @@ use Rattle.words.specs.Numerals.{valued}
 use Rattle.command_line.specs.declared.limit.Limit.{Limit}
 use Rattle.command_line.specs.declared.limit.Limit.TheVariants.{Items, Orders, Lots, Parts, Entries}
 use Rattle.command_line.specs.declared.misuse.Misuse.{Misuse}
-use Rattle.command_line.specs.declared.misuse.Misuse.TheVariants.{NoSuchOption, SecondFile, NotANumber, NumberMissing, OutOfMemory}
-
--- the limits where no option says otherwise
-abbrev pub usual_limits : Limits
-usual_limits = record { items = 32; orders = 64; lots = 128; parts = 32; entries = 256 }
+use Rattle.command_line.specs.declared.misuse.Misuse.TheVariants.{NoSuchOption, SecondFile, SecondJournal, NotANumber, NumberMissing, JournalMissing, OutOfMemory}
+use Rattle.command_line.specs.declared.request.Wanted.{Wanted}
+use Rattle.command_line.specs.declared.request.Wanted.TheVariants.{Number, Journal}
 
 -- the option that names a limit, and the limit that a word names
 abbrev pub option_name : Limit → List ℕ
@@ -56,58 +55,72 @@ at_most m None = None
 abbrev pub number_to : ℕ → List ℕ → Option ℕ
 number_to m word = at_most m (valued word)
 
--- WHAT IS ASKED FOR so far: limits, a file by its name, help, and the option whose number comes next
+-- WHAT IS ASKED FOR so far: limits, a file and a journal by their names, help, and what the next word is to say
 pub record Asked : Type 0 where
   pub limits : Limits
   pub file : Option (List ℕ)
+  pub journal : Option (List ℕ)
   pub help : Bool
-  pub wanted : Option Limit
+  pub wanted : Option Wanted
 
-abbrev pub nothing_asked : Asked
-nothing_asked = record { limits = usual_limits; file = None; help = false; wanted = None }
+abbrev pub nothing_asked : Limits → Asked
+nothing_asked l = record { limits = l; file = None; journal = None; help = false; wanted = None }
 
 abbrev pub with_number : Limit → Option ℕ → Asked → Result Asked Misuse
-with_number x (Some n) a = Ok (record { limits = with_limit x n a.limits; file = a.file; help = a.help; wanted = None })
+with_number x (Some n) a = Ok (record { limits = with_limit x n a.limits; file = a.file; journal = a.journal; help = a.help; wanted = None })
 with_number x None a = Err (NotANumber x)
 
+abbrev pub waiting : Wanted → Asked → Asked
+waiting x a = record { limits = a.limits; file = a.file; journal = a.journal; help = a.help; wanted = Some x }
+
 abbrev pub with_option : Option Limit → Asked → Result Asked Misuse
-with_option (Some x) a = Ok (record { limits = a.limits; file = a.file; help = a.help; wanted = Some x })
+with_option (Some x) a = Ok (waiting (Number x) a)
 with_option None a = Err NoSuchOption
 
 abbrev pub with_help : Asked → Asked
-with_help a = record { limits = a.limits; file = a.file; help = true; wanted = a.wanted }
+with_help a = record { limits = a.limits; file = a.file; journal = a.journal; help = true; wanted = a.wanted }
 
 abbrev pub with_file : Option (List ℕ) → List ℕ → Asked → Result Asked Misuse
-with_file None w a = Ok (record { limits = a.limits; file = Some w; help = a.help; wanted = a.wanted })
+with_file None w a = Ok (record { limits = a.limits; file = Some w; journal = a.journal; help = a.help; wanted = a.wanted })
 with_file (Some v) w a = Err SecondFile
+
+abbrev pub with_journal : Option (List ℕ) → List ℕ → Asked → Result Asked Misuse
+with_journal None w a = Ok (record { limits = a.limits; file = a.file; journal = Some w; help = a.help; wanted = None })
+with_journal (Some v) w a = Err SecondJournal
 
 abbrev pub dashed : List ℕ → Bool
 dashed [] = false
 dashed (c ∷ cs) = c == 45
 
--- one word that is no number of an option before it
+-- one word that belongs to no option before it
 abbrev pub option_taken : List ℕ → Asked → Result Asked Misuse
-option_taken w a = cond (bytes_eq w (codes "--help")) (Ok (with_help a)) (with_option (limit_named w) a)
+option_taken w a =
+    cond (bytes_eq w (codes "--help")) (Ok (with_help a))
+    (cond (bytes_eq w (codes "--journal")) (Ok (waiting Journal a)) (with_option (limit_named w) a))
 
 abbrev pub with_word : List ℕ → Asked → Result Asked Misuse
 with_word w a = cond (dashed w) (option_taken w a) (with_file a.file w a)
 
 -- ONE WORD MORE
-abbrev pub word_taken : Option Limit → List ℕ → Asked → Result Asked Misuse
-word_taken (Some x) w a = with_number x (number_to (most x) w) a
+abbrev pub word_taken : Option Wanted → List ℕ → Asked → Result Asked Misuse
+word_taken (Some (Number x)) w a = with_number x (number_to (most x) w) a
+word_taken (Some Journal) w a = with_journal a.journal w a
 word_taken None w a = with_word w a
 
--- the end of the words: no option may wait for its number
-abbrev pub ended : Option Limit → Result (Unit {0}) Misuse
-ended (Some x) = Err (NumberMissing x)
+-- the end of the words: no option may wait for a word
+abbrev pub ended : Option Wanted → Result (Unit {0}) Misuse
+ended (Some (Number x)) = Err (NumberMissing x)
+ended (Some Journal) = Err JournalMissing
 ended None = Ok tt
 
 -- why words are refused, as it is said
 abbrev pub misuse_text : Misuse → List ℕ
 misuse_text NoSuchOption = codes "no such option"
 misuse_text SecondFile = codes "a second file"
+misuse_text SecondJournal = codes "a second journal"
 misuse_text (NotANumber x) = codes "not a number from 0 to " ++ decimal (most x)
 misuse_text (NumberMissing x) = option_name x ++ codes ": a number is missing"
+misuse_text JournalMissing = codes "--journal: a file is missing"
 misuse_text OutOfMemory = codes "not enough memory"
 
 -- what came of a word, where memory suffices for a file's name
@@ -116,5 +129,7 @@ Took step (Ok u) after = step ≡ Ok after
 Took step (Err OutOfMemory) after = Unit {0}
 Took step (Err NoSuchOption) after = step ≡ Err NoSuchOption
 Took step (Err SecondFile) after = step ≡ Err SecondFile
+Took step (Err SecondJournal) after = step ≡ Err SecondJournal
 Took step (Err (NotANumber x)) after = step ≡ Err (NotANumber x)
 Took step (Err (NumberMissing x)) after = ⊥
+Took step (Err JournalMissing) after = ⊥

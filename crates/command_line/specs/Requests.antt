@@ -5,4 +5,4 @@ use Rattle.command_line.specs.Options.{Asked}
 use Rattle.command_line.specs.declared.request.Request.{Request}
 
 abbrev pub asked : Request → Asked
-asked r = record { limits = r.limits; file = option_map string_bytes r.file; help = r.help; wanted = r.wanted }
+asked r = record { limits = r.limits; file = option_map string_bytes r.file; journal = option_map string_bytes r.journal; help = r.help; wanted = r.wanted }

@@ -1,10 +1,13 @@
 //! Why a program writes nothing.
 
 ghost use Rattle.std.specs.Prelude.{◌≡◌};
-ghost use Rattle.command_line.specs.Failures.{failure_text};
+ghost use Rattle.command_line.specs.Failures.{failure_text, FailureOf};
 ghost use Rattle.command_line.specs.declared.failure.Failure.TheVariants.{Run};
 
 use crate::misuse::Misuse;
+use crate::trouble::Trouble;
+use journal::ReplayError;
+use std::alloc::Global;
 use std::error::Error;
 use std::{fmt, io};
 use text::RunError;
@@ -26,6 +29,8 @@ pub enum Failure {
     Output(io::Error),
     /// The calls are not answered.
     Run(RunError),
+    /// What is wrong with a journal, by its name.
+    Journal(String, Trouble),
 }
 
 impl From<RunError> for Failure {
@@ -33,6 +38,21 @@ impl From<RunError> for Failure {
 
     fn from(e: RunError) -> Failure {
         Failure::Run(e)
+    }
+}
+
+impl Failure {
+    /// What is wrong with a journal, by its name; want of memory is no matter of the journal's.
+    pub fn of_journal(heap: Global, name: &str, trouble: Trouble) -> Failure
+        ensures { FailureOf name.now trouble result }
+    {
+        if let Trouble::Stopped(ReplayError::Run(e)) = trouble {
+            return Failure::Run(e);
+        }
+        match String::from_str(heap, name) {
+            Ok(name) => Failure::Journal(name, trouble),
+            Err(e) => Failure::Run(RunError::from(e)),
+        }
     }
 }
 
@@ -53,6 +73,7 @@ impl fmt::Display for Failure {
             Failure::Input(e) => write!(f, "standard input: {e}"),
             Failure::Output(e) => write!(f, "standard output: {e}"),
             Failure::Run(e) => write!(f, "{e}"),
+            Failure::Journal(name, trouble) => write!(f, "{name}: {trouble}"),
         }
     }
 }

@@ -2,17 +2,24 @@
 
 #![tactic(auto)]
 
+mod asking;
 mod failure;
+mod journal_file;
+mod keeper;
+mod kept;
 mod limit;
+mod lock;
 mod misuse;
 mod program;
 mod request;
 #[cfg(test)]
 mod tests;
+mod trouble;
 mod typing;
 
 pub use failure::Failure;
 pub use limit::Limit;
 pub use misuse::Misuse;
 pub use program::Program;
-pub use request::Request;
+pub use request::{Request, USUAL, Wanted};
+pub use trouble::Trouble;

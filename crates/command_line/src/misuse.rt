@@ -16,10 +16,14 @@ pub enum Misuse {
     NoSuchOption,
     /// There is a file already.
     SecondFile,
+    /// There is a journal already.
+    SecondJournal,
     /// It is no number that this limit can have.
     NotANumber(Limit),
     /// The number of this limit is missing.
     NumberMissing(Limit),
+    /// The name of the journal is missing.
+    JournalMissing,
     /// There is not enough memory for the file's name.
     OutOfMemory,
 }
@@ -31,8 +35,10 @@ impl fmt::Display for Misuse {
         match self {
             Misuse::NoSuchOption => write!(f, "no such option"),
             Misuse::SecondFile => write!(f, "a second file"),
+            Misuse::SecondJournal => write!(f, "a second journal"),
             Misuse::NotANumber(limit) => write!(f, "not a number from 0 to {}", limit.most()),
             Misuse::NumberMissing(limit) => write!(f, "{limit}: a number is missing"),
+            Misuse::JournalMissing => write!(f, "--journal: a file is missing"),
             Misuse::OutOfMemory => write!(f, "not enough memory"),
         }
     }

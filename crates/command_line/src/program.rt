@@ -2,27 +2,32 @@
 
 ghost use Rattle.std.specs.Prelude.{◌≡◌, ◌⊎◌};
 
+use crate::asking::request;
 use crate::failure::Failure;
-use crate::request::Request;
+use crate::keeper::Keeper;
+use crate::kept::Kept;
+use crate::request::{Request, USUAL};
 use crate::typing::answer_lines;
 use layout::Limits;
 use std::alloc::Global;
 use std::io::{Read, Write};
 use std::process::ExitCode;
-use std::{env, fs, io};
+use std::{fs, io};
 use text::RunError;
 
-const OPTIONS: &str = "[--items N] [--orders N] [--lots N] [--parts N] [--entries N] [FILE]";
+const OPTIONS: &str =
+    "[--items N] [--orders N] [--lots N] [--parts N] [--entries N] [--journal FILE] [CALLS]";
 
-const WHAT_OPTIONS_DO: &str = "  --items N    how many items there can be (32; at most 4096)
-  --orders N   how many orders (64; at most 65536)
-  --lots N     how many lots (128; at most 65536)
-  --parts N    how many parts of recipes, and a recipe counts one more (32; at most 65536)
-  --entries N  how many entries (256; at most 1000000)
-  --help       says this
+const WHAT_OPTIONS_DO: &str = "  --items N       how many items there can be (32; at most 4096)
+  --orders N      how many orders (64; at most 65536)
+  --lots N        how many lots (128; at most 65536)
+  --parts N       how many parts of recipes, and a recipe counts one more (32; at most 65536)
+  --entries N     how many entries (256; at most 1000000)
+  --journal FILE  the books last in FILE, with the limits that they were opened with, and go on where they were
+  --help          says this
 ";
 
-/// A program that makes one text of another, a file of calls, on books as wide as it is asked for.
+/// A program that makes one text of another, a file of calls, on books as wide as it is asked for; or goes on with books that last in a journal.
 #[derive(Clone, Copy, PartialEq, Eq, Debug)]
 pub struct Program {
     pub name: &'static str,
@@ -30,19 +35,6 @@ pub struct Program {
     pub does: &'static str,
     /// Whether standard input is answered a line at a time, as it comes.
     pub by_line: bool,
-}
-
-// What the arguments ask for.
-fn request(rt: &HostRuntime) -> Result<Request, Failure> {
-    let words = env::args(rt).map_err(Failure::Arguments)?;
-    let mut request = Request::new();
-    for word in words.skip(1) {
-        request
-            .take(rt.alloc(), word.as_str())
-            .map_err(|misuse| Failure::Word(word, misuse))?;
-    }
-    request.end().map_err(Failure::End)?;
-    Ok(request)
 }
 
 // The text of a file, or of standard input where there is none.
@@ -53,6 +45,13 @@ fn input(rt: &HostRuntime, file: Option<String>) -> Result<Vec<u8>, Failure> {
     let mut text = Vec::new(rt.alloc());
     rt.stdin().read_to_end(&mut text).map_err(Failure::Input)?;
     Ok(text)
+}
+
+/// Writes what a program answers.
+pub fn write(rt: &HostRuntime, answer: Vec<u8>) -> Result<(), Failure> {
+    rt.stdout()
+        .write_all(answer.as_slice())
+        .map_err(Failure::Output)
 }
 
 impl Program {
@@ -66,18 +65,30 @@ impl Program {
         F: FnOnce(Global, Limits, &[u8]) -> Result<Vec<u8>, RunError>,
         requires { F.IsAlwaysCallable work }
     {
-        let request = request(rt)?;
-        if request.help {
+        let Request {
+            limits,
+            file,
+            journal,
+            help,
+            ..
+        } = request(rt, USUAL)?;
+        if help {
             return self.help(rt).map_err(Failure::Output);
         }
-        if self.by_line && request.file.is_none() {
-            return answer_lines(rt, request.limits);
+        if let Some(journal) = journal {
+            let kept = Kept {
+                program: self,
+                journal: journal.as_str(),
+                calls: file,
+            };
+            return kept.answer(rt, limits, work);
         }
-        let text = input(rt, request.file)?;
-        let answer = work(rt.alloc(), request.limits, text.as_slice())?;
-        rt.stdout()
-            .write_all(answer.as_slice())
-            .map_err(Failure::Output)
+        if self.by_line && file.is_none() {
+            let mut keeper = Keeper::new(rt.alloc(), limits)?;
+            return answer_lines(rt, &mut keeper, "");
+        }
+        let text = input(rt, file)?;
+        write(rt, work(rt.alloc(), limits, text.as_slice())?)
     }
 
     /// Writes what `work` makes of the text that the arguments ask for, or says in one line why not. The status is 0, or else 1.

@@ -1,7 +1,7 @@
 //! What the arguments ask for, word by word.
 
 ghost use Rattle.std.specs.Prelude.{◌≡◌};
-ghost use Rattle.command_line.specs.Options.{Took, number_to, nothing_asked, with_number, option_taken, with_file, word_taken, ended, most};
+ghost use Rattle.command_line.specs.Options.{Took, number_to, nothing_asked, with_number, option_taken, with_file, with_journal, word_taken, ended, most};
 ghost use Rattle.command_line.specs.Requests.{asked};
 
 use crate::limit::Limit;
@@ -10,8 +10,8 @@ use layout::Limits;
 use std::alloc::Global;
 use words::value;
 
-/// The limits where no option says otherwise.
-const USUAL: Limits = Limits {
+/// The limits of new books where no option says otherwise.
+pub const USUAL: Limits = Limits {
     items: 32,
     orders: 64,
     lots: 128,
@@ -19,15 +19,23 @@ const USUAL: Limits = Limits {
     entries: 256,
 };
 
+/// What the next word is to say, as the option before it asks.
+#[derive(Clone, Copy, PartialEq, Eq, Debug)]
+pub enum Wanted {
+    Number(Limit),
+    Journal,
+}
+
 /// What a program is to do.
 #[derive(Drop)]
 pub struct Request {
     pub limits: Limits,
     /// The file of calls; without one they come from standard input.
     pub file: Option<String>,
+    /// The file that the books last in, if they are to.
+    pub journal: Option<String>,
     pub help: bool,
-    // the option whose number comes next
-    wanted: Option<Limit>,
+    wanted: Option<Wanted>,
 }
 
 // The number that a word writes, digits alone, if it is at most so much.
@@ -38,13 +46,14 @@ fn number_to(word: &[u8], most: u32) -> Option<u32>
 }
 
 impl Request {
-    /// What no word asks for.
-    pub fn new() -> Request
-        ensures { asked result ≡ nothing_asked }
+    /// What no word asks for: books of these limits.
+    pub fn new(limits: Limits) -> Request
+        ensures { asked result ≡ nothing_asked limits }
     {
         Request {
-            limits: USUAL,
+            limits,
             file: None,
+            journal: None,
             help: false,
             wanted: None,
         }
@@ -59,12 +68,24 @@ impl Request {
         Ok(())
     }
 
+    fn take_journal(&mut self, heap: Global, word: &str) -> Result<(), Misuse>
+        ensures { Took (with_journal (asked self.old).journal word.now (asked self.old)) result (asked self.new) }
+    {
+        if self.journal.is_some() {
+            return Err(Misuse::SecondJournal);
+        }
+        self.journal = Some(String::from_str(heap, word)?);
+        self.wanted = None;
+        Ok(())
+    }
+
     fn take_option(&mut self, word: &str) -> Result<(), Misuse>
         ensures { Took (option_taken word.now (asked self.old)) result (asked self.new) }
     {
         match word {
             "--help" => self.help = true,
-            option => self.wanted = Some(option.parse()?),
+            "--journal" => self.wanted = Some(Wanted::Journal),
+            option => self.wanted = Some(Wanted::Number(option.parse()?)),
         }
         Ok(())
     }
@@ -83,13 +104,12 @@ impl Request {
     pub fn take(&mut self, heap: Global, word: &str) -> Result<(), Misuse>
         ensures { Took (word_taken self.old.wanted word.now (asked self.old)) result (asked self.new) }
     {
-        if let Some(limit) = self.wanted {
-            return self.take_number(limit, word);
+        match self.wanted {
+            Some(Wanted::Number(limit)) => self.take_number(limit, word),
+            Some(Wanted::Journal) => self.take_journal(heap, word),
+            None if word.starts_with('-') => self.take_option(word),
+            None => self.take_file(heap, word),
         }
-        if word.starts_with('-') {
-            return self.take_option(word);
-        }
-        self.take_file(heap, word)
     }
 
     /// Whether nothing is missing at the end of the words.
@@ -97,7 +117,8 @@ impl Request {
         ensures { result ≡ ended self.now.wanted }
     {
         match self.wanted {
-            Some(limit) => Err(Misuse::NumberMissing(limit)),
+            Some(Wanted::Number(limit)) => Err(Misuse::NumberMissing(limit)),
+            Some(Wanted::Journal) => Err(Misuse::JournalMissing),
             None => Ok(()),
         }
     }

@@ -1,13 +1,11 @@
 //! Standard input, answered a line at a time as it comes.
 
 use crate::failure::Failure;
-use layout::Limits;
+use crate::keeper::Keeper;
 use std::io::{BufRead, BufReader, Write};
-use text::{Books, RunError};
 
-/// Answers each line of standard input before the next one is read, on books of their own.
-pub fn answer_lines(rt: &HostRuntime, limits: Limits) -> Result<(), Failure> {
-    let mut books = Books::open(rt.alloc(), limits)?;
+/// Answers each line of standard input before the next one is read, on books that last in this journal, if in any.
+pub fn answer_lines(rt: &HostRuntime, keeper: &mut Keeper, journal: &str) -> Result<(), Failure> {
     let mut input = BufReader::new(rt.alloc(), rt.stdin()).map_err(Failure::Input)?;
     // A count, since a reader may never end.
     for _line in 0..u64::MAX {
@@ -16,10 +14,9 @@ pub fn answer_lines(rt: &HostRuntime, limits: Limits) -> Result<(), Failure> {
         if read == 0 {
             return Ok(());
         }
-        let mut answer = Vec::new(rt.alloc());
-        books
-            .answer(line.as_slice(), &mut answer)
-            .map_err(RunError::from)?;
+        let answer = keeper.answer(rt.alloc(), line.as_slice()).map_err(
+            |trouble| Failure::of_journal(rt.alloc(), journal, trouble),
+        )?;
         rt.stdout()
             .write_all(answer.as_slice())
             .map_err(Failure::Output)?;

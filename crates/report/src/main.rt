@@ -1,5 +1,5 @@
-//! `report [--items N] [--orders N] [--lots N] [--parts N] [--entries N] [FILE]`: does the calls of a file, or of standard input, and prints stock,
-//! accounts and orders as they are in the end.
+//! `report [--items N] [--orders N] [--lots N] [--parts N] [--entries N] [--journal FILE] [CALLS]`: does the calls of a file, of standard input, or of
+//! a journal, and prints stock, accounts and orders as they are in the end.
 
 #![tactic(auto)]
 
@@ -9,7 +9,7 @@ use std::process::ExitCode;
 
 const REPORT: Program = Program {
     name: "report",
-    does: "Does the calls of FILE, or of standard input, and prints stock, accounts and orders as they are in the end.",
+    does: "Does the calls of the file CALLS, of standard input or of a journal, and prints stock, accounts and orders as they are in the end.",
     by_line: false,
 };
 

@@ -1,0 +1,5 @@
+mod Lines
+mod Kept
+mod FirstLines
+mod Finishing
+mod Replays
