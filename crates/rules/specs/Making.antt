@@ -34,6 +34,7 @@ wants_on (suc k) l f i q n = part_wanted l (row_from f i) q n ∷ wants_on k l f
 unfoldable pub wants_of : Limits → Recipe → ℕ → List ℕ → List Want
 wants_of l r q n = wants_on 16 l r.first 0 q n
 
+-- what a recipe asks for, for q pieces
 abbrev pub parts_wanted : Limits → Recipe → ℕ → List ℕ → List Want
 parts_wanted l r q n = take (min 16 r.parts) (wants_of l r q n)
 
@@ -41,21 +42,23 @@ parts_wanted l r q n = take (min 16 r.parts) (wants_of l r q n)
 abbrev pub more_wanted : ℕ → ℕ → Want → ℕ
 more_wanted i a w = cond (w.item == i) (sum a w.pieces) a
 
+-- so many pieces of item i are wanted in all
 unfoldable pub in_all : List Want → ℕ → ℕ
 in_all ws i = fold (more_wanted i) 0 ws
 
--- so many lie there of each
+-- as many lie there as are wanted in all, of one item that is wanted and of each
 abbrev pub lies : List Want → List ℕ → Want → Bool
 lies ws m w = nat_le (in_all ws w.item) (stock_of w.item m).pieces
 
 abbrev pub all_lie : List Want → List ℕ → Bool
 all_lie ws m = list_all (lies ws m) ws
 
--- what is wanted takes all pieces of the oldest lot of an item
+-- what is wanted takes all pieces of the lot in a cell, the oldest of item i
 abbrev pub takes_lot : Limits → List Want → State → Option ℕ → ℕ → Bool
 takes_lot l ws s None i = false
 takes_lot l ws s (Some c) i = nat_le (lot_record l c s).pieces (in_all ws i)
 
+-- of the oldest lot of one that is wanted, and of some
 abbrev pub empties : Limits → List Want → State → Want → Bool
 empties l ws s w = takes_lot l ws s (first_lot l w.item s.narrow) w.item
 
@@ -80,6 +83,7 @@ lot_kept l a = counted_new l a.left a.came
 abbrev pub one_document : State → State
 one_document s = state (raised Documents 1 s.wide) s.narrow
 
+-- the lot is kept, and there is a document more
 unfoldable pub stored_new : Limits → Lot → State → State
 stored_new l x s = one_document (lot_kept l (add_lot l x s))
 

@@ -26,5 +26,6 @@ ordered_by w n (Err e) = outcome (refused 9 0) (state w n)
 abbrev pub added : List ℕ → After ℕ (List ℕ) → Outcome
 added w a = ordered_by w a.left a.came
 
+-- the checks in their order, and then the step
 abbrev pub ordered : Limits → Bool → ℕ → ℕ → ℕ → State → Outcome
 ordered l sells i q p s = cond (order_fields l i q p) (cond (in_time s) (added s.wide (add_order l (new_order sells i q p) s.narrow)) (refuse 9 0 s)) (refuse 2 0 s)

@@ -47,6 +47,7 @@ stored l k o q d t (Err e) = outcome (refused 9 0) t
 abbrev pub placed : Limits → ℕ → Order → ℕ → ℕ → After ℕ State → Outcome
 placed l k o q d a = stored l k o q d a.left a.came
 
+-- the checks in their order, and then the steps
 abbrev pub comes : Limits → ℕ → ℕ → State → Outcome
 comes l k q s =
     let o : Order = order_record l k s.narrow in

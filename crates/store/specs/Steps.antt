@@ -28,7 +28,7 @@ after r s = record { came = r; left = s }
 unfoldable pub pushed : Shape → ℕ → ℕ → List ℕ → List ℕ
 pushed h r c n = inserted h r (tail_in h n r) c n
 
--- LOTS
+-- LOTS. The place before the first free cell
 abbrev pub free_header : Limits → ℕ
 free_header l = header_of (lot_rows l) l.items
 
@@ -40,13 +40,16 @@ moved_in l i c n = pushed (lot_rows l) i c (removed (lot_rows l) l.items (free_h
 unfoldable pub moved_out : Limits → ℕ → ℕ → List ℕ → List ℕ
 moved_out l i c n = inserted (lot_rows l) l.items (free_header l) c (removed (lot_rows l) i (header_of (lot_rows l) i) c n)
 
+-- a count and one; it stops at the largest word
 abbrev pub one_more : ℕ → ℕ
 one_more k = min (2 ^ 32 - 1) (k + 1)
 
+-- the lot x lies in the cell c, which joins its item's row; and one lot more is in use
 unfoldable pub lot_placed : Limits → ℕ → Lot → State → State
 lot_placed l c x s =
     state (put_lot l c x s).wide (put_count Lots (one_more (count_of Lots s.narrow)) (moved_in l x.item c (put_lot l c x s).narrow))
 
+-- ADDING A LOT: refused for an item that there is not, and where no cell is free
 abbrev pub on_free : Limits → Lot → State → Option ℕ → After ℕ State
 on_free l x s None = after (Err Full) s
 on_free l x s (Some c) = after (Ok c) (lot_placed l c x s)
@@ -54,9 +57,11 @@ on_free l x s (Some c) = after (Ok c) (lot_placed l c x s)
 abbrev pub add_lot : Limits → Lot → State → After ℕ State
 add_lot l x s = cond (nat_lt x.item l.items) (on_free l x s (following_in (lot_rows l) s.narrow (free_header l))) (after (Err NoSuchItem) s)
 
+-- the cell c, of the oldest lot of item i, is free again; and one lot fewer is in use
 unfoldable pub lot_freed : Limits → ℕ → ℕ → List ℕ → List ℕ
 lot_freed l i c n = put_count Lots (count_of Lots n - 1) (moved_out l i c n)
 
+-- REMOVING the oldest lot of an item, which is answered: refused for an item that there is not, or that has no lot
 abbrev pub on_first : Limits → ℕ → State → Option ℕ → After Lot (List ℕ)
 on_first l i s None = after (Err NoLot) s.narrow
 on_first l i s (Some c) = after (Ok (lot_record l c s)) (lot_freed l i c s.narrow)
@@ -64,6 +69,7 @@ on_first l i s (Some c) = after (Ok (lot_record l c s)) (lot_freed l i c s.narro
 abbrev pub remove_lot : Limits → ℕ → State → After Lot (List ℕ)
 remove_lot l i s = cond (nat_lt i l.items) (on_first l i s (following_in (lot_rows l) s.narrow (header_of (lot_rows l) i))) (after (Err NoSuchItem) s.narrow)
 
+-- the k-th lot of item i
 abbrev pub lot_found : Limits → State → Option ℕ → Option Lot
 lot_found l s None = None
 lot_found l s (Some c) = Some (lot_record l c s)
@@ -78,17 +84,20 @@ first_lot l i n = cond (nat_lt i l.items) (following_in (lot_rows l) n (header_o
 abbrev pub lot_after : Limits → ℕ → List ℕ → Option ℕ
 lot_after l c n = following_in (lot_rows l) n c
 
--- ORDERS
+-- ORDERS. The order x is put behind those that there are, and joins its item's row
 unfoldable pub order_placed : Limits → Order → List ℕ → List ℕ
 order_placed l x n = put_count Orders (count_of Orders n + 1) (pushed (order_rows l) x.item (count_of Orders n) (put_order l (count_of Orders n) x n))
 
+-- ADDING AN ORDER: its number is how many there were
 abbrev pub add_order : Limits → Order → List ℕ → After ℕ (List ℕ)
 add_order l x n =
     cond (nat_lt x.item l.items) (cond (nat_lt (count_of Orders n) l.orders) (after (Ok (count_of Orders n)) (order_placed l x n)) (after (Err Full) n)) (after (Err NoSuchItem) n)
 
+-- an order that is there is put anew
 abbrev pub set_order : Limits → ℕ → Order → List ℕ → After ℕ (List ℕ)
 set_order l k x n = cond (nat_lt k (count_of Orders n)) (after (Ok k) (put_order l k x n)) (after (Err NoSuchOrder) n)
 
+-- the number of the k-th order of item i
 abbrev pub nth_order : Limits → ℕ → ℕ → List ℕ → Option ℕ
 nth_order l i k n = cond (nat_lt i l.items) (nth_in (order_rows l) n i k) None
 
@@ -99,26 +108,30 @@ first_order l i n = cond (nat_lt i l.items) (following_in (order_rows l) n (head
 abbrev pub order_after : Limits → ℕ → List ℕ → Option ℕ
 order_after l k n = following_in (order_rows l) n k
 
--- ENTRIES
+-- ENTRIES. The two cells of entry e: one in the row of its left account, one in that of its right
 abbrev pub left_cell : ℕ → ℕ
 left_cell e = min (2 ^ 32 - 1) (e * 2)
 
 abbrev pub right_cell : ℕ → ℕ
 right_cell e = min (2 ^ 32 - 1) (left_cell e + 1)
 
+-- both cells come at the ends of these rows
 unfoldable pub entry_linked : Limits → Entry → ℕ → List ℕ → List ℕ
 entry_linked l x e n = pushed (entry_rows l) x.right (right_cell e) (pushed (entry_rows l) x.left (left_cell e) n)
 
+-- the entry x is put behind those that there are, and joins both rows
 unfoldable pub entry_placed : Limits → Entry → State → State
 entry_placed l x s =
     state (put_entry l (count_of Entries s.narrow) x s).wide
     (put_count Entries (count_of Entries s.narrow + 1) (entry_linked l x (count_of Entries s.narrow) (put_entry l (count_of Entries s.narrow) x s).narrow))
 
+-- ADDING AN ENTRY: its number is how many there were
 abbrev pub add_entry : Limits → Entry → State → After ℕ State
 add_entry l x s =
     cond (nat_le 16 x.left || nat_le 16 x.right) (after (Err NoSuchAccount) s)
     (cond (nat_lt (count_of Entries s.narrow) l.entries) (after (Ok (count_of Entries s.narrow)) (entry_placed l x s)) (after (Err Full) s))
 
+-- the k-th entry of account a
 abbrev pub entry_found : Limits → State → Option ℕ → Option Entry
 entry_found l s None = None
 entry_found l s (Some c) = Some (entry_record l (c / 2) s)
@@ -133,10 +146,11 @@ first_entry l a n = cond (nat_lt a 16) (following_in (entry_rows l) n (header_of
 abbrev pub entry_after : Limits → ℕ → List ℕ → Option ℕ
 entry_after l c n = following_in (entry_rows l) n c
 
--- RECIPES
+-- RECIPES. The part x is put behind those that there are
 unfoldable pub part_placed : Limits → Part → List ℕ → List ℕ
 part_placed l x n = put_count Parts (count_of Parts n + 1) (put_part l (count_of Parts n) x n)
 
+-- ADDING A PART: its row is how many there were
 abbrev pub add_part : Limits → Part → List ℕ → After ℕ (List ℕ)
 add_part l x n = cond (nat_lt (count_of Parts n) l.parts) (after (Ok (count_of Parts n)) (part_placed l x n)) (after (Err Full) n)
 
@@ -144,9 +158,11 @@ add_part l x n = cond (nat_lt (count_of Parts n) l.parts) (after (Ok (count_of P
 abbrev pub front : ℕ → ℕ → Part
 front i k = record { item = i; each = k }
 
+-- a recipe begins with that row, and lies behind it
 unfoldable pub recipe_placed : Limits → ℕ → ℕ → List ℕ → List ℕ
 recipe_placed l i k n = put_recipe i (record { first = count_of Parts n + 1; parts = k }) (part_placed l (front i k) n)
 
+-- BEGINNING A RECIPE: the row in front of it is answered
 abbrev pub add_recipe : Limits → ℕ → ℕ → List ℕ → After ℕ (List ℕ)
 add_recipe l i k n =
     cond (nat_lt i l.items) (cond (nat_lt (count_of Parts n) l.parts) (after (Ok (count_of Parts n)) (recipe_placed l i k n)) (after (Err Full) n)) (after (Err NoSuchItem) n)
@@ -163,6 +179,7 @@ more_stock a q x = record { pieces = sum a.pieces q; worth = sum a.worth x }
 unfoldable pub lot_counted : Limits → Lot → List ℕ → List ℕ
 lot_counted l x w = cond (nat_lt x.item l.items) (put_stock x.item (more_stock (stock_of x.item w) x.pieces x.cost) w) w
 
+-- the lot in the cell c is counted
 abbrev pub count_in : Limits → ℕ → State → List ℕ
 count_in l c s = lot_counted l (lot_record l c s) s.wide
 

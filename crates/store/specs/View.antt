@@ -63,11 +63,13 @@ cells a = pieces (λ k e. only_if (e.left == a) (2 * k) ++ only_if (e.right == a
 abbrev pub entries_of : ℕ → List Entry → List Entry
 entries_of a es = pieces (λ k e. only_if (e.left == a) e ++ only_if (e.right == a) e) 0 es
 
+-- the limits in the head, enough words, and the totals
 pub record Frame (l : Limits) (s : State) (ts : Total → ℕ) : Type 0 where
   pub limits : limits_in s.narrow ≡ l
   pub roomy : Roomy l s
   pub totals : (t : Total) → total_of t s.wide ≡ ts t
 
+-- each item's row has the cells of its lots, the oldest first, and the last row those that are free
 pub record LotsStand (l : Limits) (s : State) (of : ℕ → List Lot) (many : ℕ) : Type 0 where
   pub places : List (List ℕ)
   pub held : Rows (lot_rows l) s.narrow places
@@ -75,6 +77,7 @@ pub record LotsStand (l : Limits) (s : State) (of : ℕ → List Lot) (many : �
   pub used : count_of Lots s.narrow ≡ many
   pub free : many + length (row places l.items) ≡ l.lots
 
+-- the orders by number, and each item's row with the numbers of its orders
 pub record OrdersStand (l : Limits) (s : State) (os : List Order) : Type 0 where
   pub count : count_of Orders s.narrow ≡ length os
   pub few : length os ≤ l.orders
@@ -83,6 +86,7 @@ pub record OrdersStand (l : Limits) (s : State) (os : List Order) : Type 0 where
   pub linked : Numbered (order_rows l) s.narrow places (length os)
   pub of_item : (i : ℕ) → i < l.items → row places i ≡ numbers i 0 os
 
+-- the entries by number, and each account's row with the cells of its entries
 pub record EntriesStand (l : Limits) (s : State) (es : List Entry) : Type 0 where
   pub count : count_of Entries s.narrow ≡ length es
   pub few : length es ≤ l.entries
@@ -91,16 +95,19 @@ pub record EntriesStand (l : Limits) (s : State) (es : List Entry) : Type 0 wher
   pub linked : Numbered (entry_rows l) s.narrow places (2 * length es)
   pub of_account : (a : ℕ) → a < 16 → row places a ≡ cells a 0 es
 
+-- the parts of recipes by row, and where each item's last recipe lies
 pub record RecipesStand (l : Limits) (s : State) (ps : List Part) (of : ℕ → Recipe) : Type 0 where
   pub count : count_of Parts s.narrow ≡ length ps
   pub few : length ps ≤ l.parts
   pub each : Table (λ k. part_record l k s.narrow) part_kind.nothing ps
   pub first : (i : ℕ) → i < l.items → recipe_of i s.narrow ≡ of i
 
+-- the kept sums of items and accounts
 pub record SumsStand (l : Limits) (s : State) (of_item : ℕ → Stock) (of_account : ℕ → Balance) : Type 0 where
   pub stocks : (i : ℕ) → i < l.items → stock_of i s.wide ≡ of_item i
   pub balances : (a : ℕ) → a < 16 → balance_of a s.wide ≡ of_account a
 
+-- MEMORY STANDS FOR WHAT IS KEPT, area by area
 pub record Stands (l : Limits) (s : State) (b : Kept) : Type 0 where
   pub frame : Frame l s b.totals
   pub lots : LotsStand l s b.lots_of b.lots_used

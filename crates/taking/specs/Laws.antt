@@ -26,7 +26,7 @@ pub record Priced (ls : List firm.Lot) : Type 0 where
   pub small : AllSmall ls
   pub worth : all_worth ls ≤ 1000000000000
 
--- items that there are
+-- each want is of an item that there is
 abbrev pub KnownItems : Limits → List Want → Type 0
 KnownItems l [] = Unit
 KnownItems l (w ∷ ws) = (w.item < l.items) × KnownItems l ws
@@ -54,6 +54,7 @@ pub record Took (l : Limits) (b : Kept) (t : Taking) (r : firm.Taken) : Type 0 w
   pub lots : LotsLeft l t.slices b r.left
   pub parts : t.parts ≡ r.parts
 
+-- what is taken on memory is what is taken in the books
 abbrev pub Takes : Type 0
 Takes =
     (l : Limits) (s : State) (b : Kept) (ls : List firm.Lot) (ws : List Want) → Good l → Stands l s b → LotsMean l b.lots_of b.lots_used ls → Priced ls → KnownItems l ws → length ws ≤ 256 →
@@ -74,19 +75,23 @@ OldestFirst =
     w.item < l.items → x.item ≡ w.item → w.pieces < x.pieces + on_hand xs w.item →
     (rest : List firm.Lot) × LotsLeft l (take_all l (w ∷ []) s).slices b (rest ++ ys)
 
--- ON ANY MEMORY an answer has room for what was taken, and says it; where no bytes are lent, none is written
+-- ON ANY MEMORY an answer has room for what was taken
 abbrev pub TakesFew : Type 0
 TakesFew = (l : Limits) (ws : List Want) (s : State) → length (take_all l ws s).parts ≤ most_lines l
 
+-- and so is what is counted off as it is taken
 abbrev pub CountedFew : Type 0
 CountedFew = (l : Limits) (ws : List Want) (s : State) → length (take_counted l ws s).parts ≤ most_lines l
 
+-- it is then the bytes of an answer that says these lots
 abbrev pub Tells : Type 0
 Tells = (l : Limits) (ps : List firm.Lot) (old : List ℕ) → length ps ≤ most_lines l → answer_need l ≤ length old → (told ps old).answer ≡ over (bytes_of_answer (lots ps)) old
 
+-- it has a line for each
 abbrev pub CountsLines : Type 0
 CountsLines = (l : Limits) (ps : List firm.Lot) (old : List ℕ) → length ps ≤ most_lines l → (told ps old).taken.lines ≡ length ps
 
+-- where no bytes are lent, none is written
 abbrev pub TellsNothing : Type 0
 TellsNothing = (ps : List firm.Lot) → (told ps []).answer ≡ []
 
