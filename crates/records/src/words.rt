@@ -8,14 +8,17 @@ pub fn lies(len: usize, at: usize, count: usize) -> bool
     ensures exact { result ≡ nat_le (at + count) len }
     ensures inside { T result → at + count ≤ len }
 {
-    at <= len && count <= len - at
+    count <= len && at <= len - count
 }
 
 /// The `N` words from `at` on, if they all lie in the slice.
 pub fn row<W, const N: usize>(words: &[W], at: usize) -> Option<&[W; N]>
     ensures { MatchOption result (length words.now < at + N) (λ y. (at + N ≤ length words.now) × (y.now ≡ take N (drop at words.now))) }
 {
-    words.get(at..)?.first_chunk()
+    if !lies(words.len(), at, N) {
+        return None;
+    }
+    words[at..at + N].first_chunk()
 }
 
 /// Writes the words of a row from `at` on.
