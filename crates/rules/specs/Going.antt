@@ -1,5 +1,5 @@
 -- Goods that go on an order to sell, on any memory. Definitions only: nothing is assumed.
-use Rattle.std.specs.Prelude.{ℕ, ◌+◌, Bool, cond, ◌&&◌, [], ◌∷◌, nat_le, nat_lt}
+use Rattle.std.specs.Prelude.{ℕ, ◌+◌, Bool, cond, ◌&&◌, ◌||◌, [], ◌∷◌, nat_le, nat_lt}
 use Rattle.firm.specs.Calls.{lots}
 use Rattle.firm.specs.Refusals.{some_pieces}
 use Rattle.layout.specs.declared.head.Counter.TheVariants.{Orders}
@@ -9,8 +9,9 @@ use Rattle.memory.specs.Books.{count_of, total_of, order_record, stock_of}
 use Rattle.records.specs.State.{State, state}
 use Rattle.records.specs.declared.order.Order.{Order}
 use Rattle.store.specs.Steps.{counted_out}
-use Rattle.taking.specs.Takes.{want, cost_of, Taking, take_all}
-use Rattle.rules.specs.Checks.{in_time, enters}
+use Rattle.taking.specs.Takes.{want, cost_of, cost_taken, Taking, take_all}
+use Rattle.taking.specs.declared.wants.Want.{Want}
+use Rattle.rules.specs.Checks.{in_time, room, enters}
 use Rattle.rules.specs.Entering.{entered}
 use Rattle.rules.specs.Outcome.{Outcome, outcome, refuse}
 use Rattle.rules.specs.Receiving.{moved_more, with_order}
@@ -36,20 +37,23 @@ issued l o q x d s =
 abbrev pub goes_fits : Limits → ℕ → State → Bool
 goes_fits l x s = enters l x s && in_time s
 
-abbrev pub let_go : Limits → Order → ℕ → ℕ → ℕ → Taking → Outcome
-let_go l o q x d t = outcome (lots t.parts) (issued l o q x d t.slices)
+-- whether what goes is within the limits: all that lies there of the item would be, or what is wanted is, at what taking it would cost
+abbrev pub goods_fit : Limits → Want → State → Bool
+goods_fit l w s = (room l 1 (stock_of w.item s.wide).worth s || enters l (cost_of l w s) s) && in_time s
 
--- the cost is what taking would cost on what lies there before. The answer is what was taken of which lots
+abbrev pub let_go : Limits → Order → ℕ → ℕ → Taking → Outcome
+let_go l o q d t = outcome (lots t.parts) (issued l o q (cost_taken t) d t.slices)
+
+-- the answer is what was taken of which lots
 abbrev pub goes : Limits → ℕ → ℕ → State → Outcome
 goes l k q s =
     let o : Order = order_record l k s.narrow in
-    let x : ℕ = cost_of l (want o.item q) s in
     let d : ℕ = total_of Documents s.wide in
     cond (some_pieces q)
     (cond (nat_lt k (count_of Orders s.narrow))
     (cond o.sells
     (cond (nat_le (o.moved + q) o.pieces)
-    (cond (nat_le q (stock_of o.item s.wide).pieces) (cond (goes_fits l x s) (let_go l o q x d (gone l k q s)) (refuse 9 0 s)) (refuse 7 1 s))
+    (cond (nat_le q (stock_of o.item s.wide).pieces) (cond (goods_fit l (want o.item q) s) (let_go l o q d (gone l k q s)) (refuse 9 0 s)) (refuse 7 1 s))
     (refuse 6 1 s))
     (refuse 5 0 s))
     (refuse 4 0 s))

@@ -5,12 +5,14 @@ ghost use Rattle.firm.specs.Calls.{lots};
 ghost use Rattle.layout.specs.declared.head.Total.TheVariants.{Documents};
 ghost use Rattle.memory.specs.Books.{total_of};
 ghost use Rattle.memory.specs.Lent.{seen, words, Same};
-ghost use Rattle.taking.specs.Takes.{tally, told};
+ghost use Rattle.taking.specs.Takes.{cost_taken, tally, told};
 ghost use Rattle.rules.specs.Checks.{if};
-ghost use Rattle.rules.specs.Going.{gone_of, gone, issued, goes_fits, goes};
+ghost use Rattle.rules.specs.Going.{gone_of, gone, issued, goes_fits, goods_fit, goes};
 ghost use Rattle.rules.specs.Outcome.{outcome, told_by};
 
-use crate::checks::{enters, known_order, moves, next_document, on_hand, some_pieces, to_sell};
+use crate::checks::{
+    enters, known_order, moves, next_document, on_hand, room, some_pieces, to_sell,
+};
 use crate::entering::enter;
 use crate::refused::Refused;
 use crate::totals::{lower, raise};
@@ -30,12 +32,25 @@ pub fn fits(view: View<'_>, cost: u64) -> Option<u64>
     next_document(view)
 }
 
+// The next document's number, if what is wanted can go. It costs no more than all that lies there of its item: only where that is too much
+// is its own cost found beforehand, which takes a walk along the lots.
+fn goods_fit(view: View<'_>, want: Want) -> Option<u64>
+    ensures { result ≡ if (goods_fit view.entry.limits want (seen view.entry)) (total_of Documents view.entry.wide.now) }
+{
+    let worth = view.stock(want.item).worth;
+    if !room(view, 1, worth) && !enters(view, taking::cost_of(view, want)) {
+        return None;
+    }
+    next_document(view)
+}
+
 // The order moves, and its pieces are taken and told in the answer.
 fn take(memory: &mut Memory<'_>, number: u32, order: Order, pieces: u32, answer: &mut [u8]) -> Taken
     requires { order.moved + pieces ≤ order.pieces }
     ensures words { words memory.new ≡ (gone_of memory.old.limits number order pieces (words memory.old)).slices }
     ensures same { Same memory.old memory.new }
     ensures answer { tally answer.new result ≡ told (gone_of memory.old.limits number order pieces (words memory.old)).parts answer.old }
+    ensures cost { result.cost ≡ cost_taken (gone_of memory.old.limits number order pieces (words memory.old)) }
 {
     let moved = Order {
         moved: order.moved + pieces,
@@ -99,11 +114,10 @@ pub fn goes(
         item: order.item,
         pieces: u64::from(pieces),
     };
-    let cost = taking::cost_of(memory.view(), want);
-    let Some(document) = fits(memory.view(), cost) else {
+    let Some(document) = goods_fit(memory.view(), want) else {
         return Err(Refused::first(Refusal::OverLimits));
     };
     let taken = take(memory, number, order, pieces, answer);
-    issued(memory, order, pieces, cost, document);
+    issued(memory, order, pieces, taken.cost, document);
     Ok(taken)
 }

@@ -118,9 +118,12 @@ module _ (ls : List stock.Lot) (i q : ℕ) where
   pieces_left : q ≤ on_hand ls i → on_hand ls i - q ≡ on_hand taken.left i
   pieces_left enough = omega (arith, (take_keeps ls i q).2, (take_keeps ls i q).3, take_lacking ls i q)
 
+  -- what is taken costs no more than all that is there
+  pub cost_most : taken.cost ≤ worth ls i
+  cost_most = omega (arith, worth_is ls i, (one_item ls i q).cost, (take_keeps (of_item ls i) i q).0)
+
   worth_left : worth ls i - taken.cost ≡ worth taken.left i
   worth_left =
-      let own : stock.Taken = take (of_item ls i) i q in
       omega (
         arith,
         worth_is ls i,

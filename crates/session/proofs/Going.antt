@@ -1,8 +1,8 @@
 -- Goods that go on an order to sell, at any stage that does that call. Assumes nothing.
 use Rattle.std.proofs.Common.{◌≡◌, ℕ, suc, ◌+◌, ◌-◌, ◌^◌, ◌<◌, ◌≤◌, min, Bool, true, false, cond, ◌&&◌, ◌||◌, eqb, ltb, leb, List, [], ◌∷◌, ◌++◌, length, get_or, set, Ok, sym, refl, ap, ◌∙◌, subst, ap₂, arith, length-set}
 use Rattle.std.proofs.lemmas.List.{length-map, map-set, get_or-map}
-use Rattle.std.proofs.lemmas.Bool.{cond_both, and_parts, leb-true, ltb-true, le-leb}
-use Rattle.firm.specs.Stock.{pick, take, on_hand}
+use Rattle.std.proofs.lemmas.Bool.{cond_both, and_from, and_parts, leb-true, ltb-true, le-leb}
+use Rattle.firm.specs.Stock.{pick, take, on_hand, all_worth}
 use Rattle.firm.specs.Stock as stock
 use Rattle.firm.specs.Ledger.{entry}
 use Rattle.firm.specs.Firm.{Firm, no_order, the_order, moved_by}
@@ -29,9 +29,9 @@ use Rattle.records.specs.Kinds.{order_kind}
 use Rattle.records.specs.State.{State, state}
 use Rattle.records.specs.declared.entry.Entry.{Entry}
 use Rattle.records.specs.declared.order.Order.{Order}
-use Rattle.rules.specs.Checks.{in_time, enters as entering}
+use Rattle.rules.specs.Checks.{in_time, room, enters as entering}
 use Rattle.rules.specs.Entering.{entered}
-use Rattle.rules.specs.Going.{gone, summed_out, issued, goes_fits, let_go}
+use Rattle.rules.specs.Going.{gone, summed_out, issued, goes_fits, goods_fit, let_go}
 use Rattle.rules.specs.Going as going
 use Rattle.rules.specs.Outcome.{refuse}
 use Rattle.rules.specs.Receiving.{moved_more, with_order}
@@ -42,13 +42,13 @@ use Rattle.store.specs.View.{Kept, Stands}
 use Rattle.store.proofs.OrderLaws.{sets_order}
 use Rattle.store.proofs.SumLaws.{counts_out}
 use Rattle.taking.specs.Laws.{LotsMean, Priced, with_all_lots, Took}
-use Rattle.taking.specs.Takes.{want, cost_of}
+use Rattle.taking.specs.Takes.{want, cost_of, cost_taken}
 use Rattle.taking.specs.declared.wants.Want.{Want}
 use Rattle.taking.proofs.AllTaking.{one_wanted}
 use Rattle.taking.proofs.Costing.{costs}
 use Rattle.taking.proofs.TakingLaws.{takes}
 use Rattle.session.specs.Means.{Means, order_of, limits_of, Sized}
-use Rattle.session.proofs.Counting.{stock_less, take_few}
+use Rattle.session.proofs.Counting.{cost_most, stock_less, take_few}
 use Rattle.session.proofs.Entering.{Entered, enters}
 use Rattle.session.proofs.Steps.{raised_stands, lowered_stands}
 use Rattle.session.proofs.Small.{sized_put_order, sized_taken, sized_counted_out, sized_raised, sized_lowered, order_small}
@@ -163,6 +163,29 @@ module _ (l : Limits) (s : State) (f : Firm) (k q : ℕ) (can : ℕ → Bool) (c
 
     cost_is : cost_of (limits_of l) w s ≡ x
     cost_is = costs (limits_of l) s m f.lots w good h.stands lots_mean priced known.item
+
+    -- all that lies there costs no less, so that what goes is within the limits where that is
+    no_less : x ≤ (stock_of o.item s.wide).worth
+    no_less = omega (arith, cost_most f.lots o.item q, ap (λ z. z.worth) (h.stands.sums.stocks o.item known.item ∙ h.stocks o.item known.item))
+
+    goods_are : goods_fit (limits_of l) w s ≡ goes_fits (limits_of l) x s
+    goods_are =
+        ap (λ (b : Bool). b && in_time s)
+        (ap (λ (n : ℕ). room (limits_of l) 1 (stock_of o.item s.wide).worth s || entering (limits_of l) n s) cost_is
+        ∙ implied (room (limits_of l) 1 (stock_of o.item s.wide).worth s) (entering (limits_of l) x s) whole)
+      where
+        implied : (u v : Bool) → (u ≡ true → v ≡ true) → (u || v) ≡ v
+        implied true v to = sym (to refl)
+        implied false v to = refl
+
+        one_most : (n : ℕ) → cond (eqb n 0) 0 1 ≤ 1
+        one_most n = cond_both (eqb n 0) 0 1 (λ (m : ℕ). m ≤ 1) (λ _. omega arith) (λ _. omega arith)
+
+        whole : room (limits_of l) 1 (stock_of o.item s.wide).worth s ≡ true → entering (limits_of l) x s ≡ true
+        whole all =
+            let p = and_parts (leb (count_of Entries s.narrow + 1) l.entries) (leb (total_of Booked s.wide + (stock_of o.item s.wide).worth) 1000000000000000) all in
+            and_from (leb (count_of Entries s.narrow + cond (eqb x 0) 0 1) l.entries) (leb (total_of Booked s.wide + x) 1000000000000000)
+            (le-leb _ _ (omega (arith, leb-true _ _ p.0, one_most x))) (le-leb _ _ (omega (arith, leb-true _ _ p.1, no_less)))
 
     -- WHETHER IT FITS: the firm afterwards, by the order and the document
     abbrev target : firm.Order → ℕ → Firm
@@ -317,6 +340,10 @@ module _ (l : Limits) (s : State) (f : Firm) (k q : ℕ) (can : ℕ → Bool) (c
           k₆ : Kept
           k₆ = with_total Documents (min (2 ^ 64 - 1) (k₅.totals Documents + 1)) k₅
 
+      -- what was taken cost what the books say
+      cost_taken_is : cost_taken (gone (limits_of l) k q s) ≡ x
+      cost_taken_is = omega (arith, ap all_worth took.parts, (take_keeps f.lots o.item q).1, tested.1)
+
       says : lots (gone (limits_of l) k q s).parts ≡ told f c
       unfolding told
       says = ap lots took.parts ∙ ap (λ (z : firm.Order). lots (take f.lots z.item q).parts) same
@@ -329,15 +356,15 @@ module _ (l : Limits) (s : State) (f : Firm) (k q : ℕ) (can : ℕ → Bool) (c
       lies : q ≤ on_hand f.lots o.item
       lies = omega (arith, leb-true _ _ lie, hand)
 
-      last_done : Done l s f c (cond (goes_fits (limits_of l) x s) (let_go (limits_of l) o q x d (gone (limits_of l) k q s)) (refuse 9 0 s))
+      last_done : Done l s f c (cond (goods_fit (limits_of l) w s) (let_go (limits_of l) o q d (gone (limits_of l) k q s)) (refuse 9 0 s))
       last_done =
-          cond_both (goes_fits (limits_of l) x s) (let_go (limits_of l) o q x d (gone (limits_of l) k q s)) (refuse 9 0 s) (Done l s f c)
-          (λ fit. goes l s f c _ _ (turned_not l f c (good_is ∙ g) by_0 (fits_are ∙ fit)) (says g (leb-true _ _ enough) lies fit) (issued_means g (leb-true _ _ enough) lies fit))
-          (λ over. refuses l s f c 9 0 (turned_full l f c (good_is ∙ g) by_0 (fits_are ∙ over)) (omega arith) at_9 h)
-
-      -- so at the cost that is found by reading
-      cost_done : Done l s f c (cond (goes_fits (limits_of l) (cost_of (limits_of l) w s) s) (let_go (limits_of l) o q (cost_of (limits_of l) w s) d (gone (limits_of l) k q s)) (refuse 9 0 s))
-      cost_done = subst (λ (n : ℕ). Done l s f c (cond (goes_fits (limits_of l) n s) (let_go (limits_of l) o q n d (gone (limits_of l) k q s)) (refuse 9 0 s))) (sym cost_is) last_done
+          cond_both (goods_fit (limits_of l) w s) (let_go (limits_of l) o q d (gone (limits_of l) k q s)) (refuse 9 0 s) (Done l s f c)
+          (λ within.
+          let fit : goes_fits (limits_of l) x s ≡ true = sym goods_are ∙ within in
+          goes l s f c _ _ (turned_not l f c (good_is ∙ g) by_0 (fits_are ∙ fit)) (says g (leb-true _ _ enough) lies fit)
+          (subst (λ (n : ℕ). Means (limits_of l) (issued (limits_of l) o q n d (gone (limits_of l) k q s).slices) (changed f c)) (sym (cost_taken_is g (leb-true _ _ enough) lies fit))
+          (issued_means g (leb-true _ _ enough) lies fit)))
+          (λ over. refuses l s f c 9 0 (turned_full l f c (good_is ∙ g) by_0 (fits_are ∙ sym goods_are ∙ over)) (omega arith) at_9 h)
 
   pub goes_done : Done l s f c (going.goes (limits_of l) k q s)
   goes_done =
@@ -346,7 +373,7 @@ module _ (l : Limits) (s : State) (f : Firm) (k q : ℕ) (can : ℕ → Bool) (c
       (λ e. cond_both o.sells _ (refuse 5 0 s) (Done l s f c)
       (λ sell. cond_both (leb (o.moved + q) o.pieces) _ (refuse 6 1 s) (Done l s f c)
       (λ enough. cond_both (leb q (stock_of o.item s.wide).pieces) _ (refuse 7 1 s) (Done l s f c)
-      (λ lie. cost_done e g sell enough lie)
+      (λ lie. last_done e g sell enough lie)
       (λ lack. refuses l s f c 7 1
       (turned_known l f c 7 (good_is ∙ g) (by_pieces e sell ∙ pick_true (leb (o.moved + q) o.pieces) _ 6 enough ∙ pick_false (leb q (stock_of o.item s.wide).pieces) 0 7 lack) (omega arith)) (omega arith) at_7 h))
       (λ short. refuses l s f c 6 1 (turned_known l f c 6 (good_is ∙ g) (by_pieces e sell ∙ pick_false (leb (o.moved + q) o.pieces) _ 6 short) (omega arith)) (omega arith) at_6 h))

@@ -92,6 +92,10 @@ costs_more x ps = sum x (firm.all_worth ps)
 abbrev pub off : Limits → Want → ℕ → State → State
 off l w x s = state (counted_out l w.item w.pieces x s.wide) s.narrow
 
+-- what was taken cost so much
+abbrev pub cost_taken : Taking → ℕ
+cost_taken t = costs_more 0 t.parts
+
 -- what is wanted, one after the other, each counted off as it is taken, where n parts were taken before, which cost x
 abbrev pub counted_each : List Want → Limits → ℕ → ℕ → State → Taking
 counted_each [] l n x s = taking s []

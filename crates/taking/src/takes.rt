@@ -3,7 +3,7 @@
 ghost use Rattle.std.specs.Prelude.{◌≡◌, ◌≤◌};
 ghost use Rattle.memory.specs.Lent.{words, Same};
 ghost use Rattle.questions.specs.Listing.{lot_of};
-ghost use Rattle.taking.specs.Takes.{most_lines, taken_each, take_all, take_counted, tally, nothing_taken, with_part, tallied, told};
+ghost use Rattle.taking.specs.Takes.{most_lines, taken_each, take_all, cost_taken, take_counted, tally, nothing_taken, with_part, tallied, told};
 
 use crate::oldest::take_oldest;
 use crate::wants::{Taken, Want};
@@ -77,6 +77,7 @@ pub fn take_all(memory: &mut Memory<'_>, wants: &[Want], answer: &mut [u8]) -> T
     ensures words { words memory.new ≡ (take_all memory.old.limits wants.now (words memory.old)).slices }
     ensures same { Same memory.old memory.new }
     ensures answer { tally answer.new result ≡ told (take_all memory.old.limits wants.now (words memory.old)).parts answer.old }
+    ensures cost { result.cost ≡ cost_taken (take_all memory.old.limits wants.now (words memory.old)) }
 {
     let taken = take_each(memory, wants, answer, NOTHING);
     let _ = LotLine::begin(answer, u64::from(taken.lines));
