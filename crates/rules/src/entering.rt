@@ -9,6 +9,7 @@ use records::Entry;
 
 /// Keeps an entry and posts it on both its accounts; one of nothing is not made.
 #[tactic(auto, unfolding(crate::specs::Entering::entered))]
+#[inline(always)]
 pub fn enter(memory: &mut Memory<'_>, entry: Entry)
     ensures words { words memory.new ≡ entered memory.old.limits entry (words memory.old) }
     ensures same { Same memory.old memory.new }

@@ -3,6 +3,7 @@
 ghost use Rattle.std.specs.Prelude.{◌≡◌, ◌+◌, ◌*◌, ◌≤◌, T, length};
 ghost use Rattle.wire.specs.Calls.{call_of};
 ghost use Rattle.rules.specs.Going.{goes};
+ghost use Rattle.rules.specs.Receiving.{comes};
 ghost use Rattle.rules.specs.Making.{makes};
 ghost use Rattle.rules.specs.Outcome.{refusing};
 ghost use Rattle.session.specs.Calling.{Said, done, lots_told, entries_told, holds, called_of, called, Fits};
@@ -48,17 +49,52 @@ fn taken_length(taken: Taken) -> usize
     ONE_FIELD + ROW_OF_FOUR * taken.lines as usize
 }
 
-// Lets goods go: what was taken is in the answer already, and its length is that of so many lines.
-fn say_goes(memory: &mut Memory<'_>, order: u64, pieces: u64, out: &mut [u8]) -> usize
-    requires { answer_need memory.old.limits ≤ length out.old }
-    ensures memory { words memory.new ≡ (goes memory.old.limits order pieces (words memory.old)).left }
-    ensures same { Same memory.old memory.new }
-    ensures bytes { Said (goes memory.old.limits order pieces (words memory.old)).answer result out.old out.new }
+// Lets goods go: what was taken is in the answer already, and its length is that of so many lines. A function by itself, which makes its own
+// `Memory`: where all that it calls on its way is inlined, the compiler keeps slices and limits in registers.
+#[inline(never)]
+fn say_goes(
+    wide: &mut [u64],
+    narrow: &mut [u32],
+    limits: Limits,
+    order: u64,
+    pieces: u64,
+    out: &mut [u8],
+) -> usize
+    requires { answer_need limits ≤ length out.old }
+    ensures memory { state wide.new narrow.new ≡ (goes limits order pieces (state wide.old narrow.old)).left }
+    ensures bytes { Said (goes limits order pieces (state wide.old narrow.old)).answer result out.old out.new }
 {
-    match rules::goes(memory, order, pieces, out) {
+    let mut memory = Memory {
+        wide,
+        narrow,
+        limits,
+    };
+    match rules::goes(&mut memory, order, pieces, out) {
         Ok(taken) => taken_length(taken),
         Err(refused) => say(refused, out),
     }
+}
+
+// Keeps goods that come, in a function by itself as goods go.
+#[inline(never)]
+fn say_comes(
+    wide: &mut [u64],
+    narrow: &mut [u32],
+    limits: Limits,
+    order: u64,
+    pieces: u64,
+    out: &mut [u8],
+) -> usize
+    requires { answer_need limits ≤ length out.old }
+    ensures memory { state wide.new narrow.new ≡ (comes limits order pieces (state wide.old narrow.old)).left }
+    ensures bytes { Said (comes limits order pieces (state wide.old narrow.old)).answer result out.old out.new }
+{
+    let mut memory = Memory {
+        wide,
+        narrow,
+        limits,
+    };
+    say(rules::comes(&mut memory, order, pieces), out)
 }
 
 // Makes pieces: what was taken is in the answer already, as where goods go.
@@ -94,8 +130,22 @@ fn answer(memory: &mut Memory<'_>, call: Call<'_>, out: &mut [u8]) -> usize
     match call {
         Call::Buys(item, pieces, price) => say(rules::buys(memory, item, pieces, price), out),
         Call::Sells(item, pieces, price) => say(rules::sells(memory, item, pieces, price), out),
-        Call::Comes(order, pieces) => say(rules::comes(memory, order, pieces), out),
-        Call::Goes(order, pieces) => say_goes(memory, order, pieces, out),
+        Call::Comes(order, pieces) => say_comes(
+            memory.wide,
+            memory.narrow,
+            memory.limits,
+            order,
+            pieces,
+            out,
+        ),
+        Call::Goes(order, pieces) => say_goes(
+            memory.wide,
+            memory.narrow,
+            memory.limits,
+            order,
+            pieces,
+            out,
+        ),
         Call::BilledBy(order, pieces, sum) => {
             say(rules::billed_by(memory, order, pieces, sum), out)
         }

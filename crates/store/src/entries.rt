@@ -11,6 +11,7 @@ use memory::{Memory, View};
 use records::Entry;
 
 #[tactic(auto, unfolding(crate::specs::Steps::entry_linked))]
+#[inline(always)]
 fn link_entry(memory: &mut Memory<'_>, value: Entry, entry: u32)
     ensures narrow { memory.new.narrow.now ≡ entry_linked memory.old.limits value entry memory.old.narrow.now }
     ensures alone { NarrowAlone memory.old memory.new }
@@ -23,6 +24,7 @@ fn link_entry(memory: &mut Memory<'_>, value: Entry, entry: u32)
 
 /// Keeps one more entry, the last of its two accounts, and answers its number.
 #[tactic(auto, unfolding(crate::specs::Steps::entry_placed))]
+#[inline(always)]
 pub fn add_entry(memory: &mut Memory<'_>, value: Entry) -> Result<u32, Refusal>
     ensures words { after result (words memory.new) ≡ add_entry memory.old.limits value (words memory.old) }
     ensures same { Same memory.old memory.new }

@@ -12,6 +12,7 @@ use memory::{Memory, View};
 use records::Lot;
 
 #[tactic(auto, unfolding(crate::specs::Steps::moved_in))]
+#[inline(always)]
 fn move_in(memory: &mut Memory<'_>, item: u32, cell: u32)
     ensures narrow { memory.new.narrow.now ≡ moved_in memory.old.limits item cell memory.old.narrow.now }
     ensures alone { NarrowAlone memory.old memory.new }
@@ -23,6 +24,7 @@ fn move_in(memory: &mut Memory<'_>, item: u32, cell: u32)
 }
 
 #[tactic(auto, unfolding(crate::specs::Steps::moved_out))]
+#[inline(always)]
 fn move_out(memory: &mut Memory<'_>, item: u32, cell: u32)
     ensures narrow { memory.new.narrow.now ≡ moved_out memory.old.limits item cell memory.old.narrow.now }
     ensures alone { NarrowAlone memory.old memory.new }
@@ -34,6 +36,7 @@ fn move_out(memory: &mut Memory<'_>, item: u32, cell: u32)
 }
 
 #[tactic(auto, unfolding(crate::specs::Steps::lot_placed))]
+#[inline(always)]
 fn place_lot(memory: &mut Memory<'_>, cell: u32, value: Lot)
     ensures words { words memory.new ≡ lot_placed memory.old.limits cell value (words memory.old) }
     ensures same { Same memory.old memory.new }
@@ -46,6 +49,7 @@ fn place_lot(memory: &mut Memory<'_>, cell: u32, value: Lot)
 
 /// Frees the cell of an item's oldest lot, which leaves the item's row.
 #[tactic(auto, unfolding(crate::specs::Steps::lot_freed))]
+#[inline(always)]
 pub fn free_lot(memory: &mut Memory<'_>, item: u32, cell: u32)
     ensures narrow { memory.new.narrow.now ≡ lot_freed memory.old.limits item cell memory.old.narrow.now }
     ensures alone { NarrowAlone memory.old memory.new }
@@ -56,6 +60,7 @@ pub fn free_lot(memory: &mut Memory<'_>, item: u32, cell: u32)
 }
 
 /// Keeps a lot, the youngest of its item, in a free cell.
+#[inline(always)]
 pub fn add_lot(memory: &mut Memory<'_>, value: Lot) -> Result<u32, Refusal>
     ensures words { after result (words memory.new) ≡ add_lot memory.old.limits value (words memory.old) }
     ensures same { Same memory.old memory.new }

@@ -10,6 +10,7 @@ use records::Lot;
 
 // A lot that gave all its pieces goes, else what is left of it takes its place.
 #[tactic(auto, unfolding(crate::specs::Takes::given))]
+#[inline(always)]
 fn give(memory: &mut Memory<'_>, item: u32, cell: u32, lot: Lot, part: Lot)
     ensures words { words memory.new ≡ given memory.old.limits item cell lot part (words memory.old) }
     ensures same { Same memory.old memory.new }
@@ -23,6 +24,7 @@ fn give(memory: &mut Memory<'_>, item: u32, cell: u32, lot: Lot, part: Lot)
 
 /// Takes what is wanted of the oldest lot of an item: what that lot gave, or none where the item has no lot.
 #[tactic(auto, unfolding(crate::specs::Takes::take_oldest))]
+#[inline(always)]
 pub fn take_oldest(memory: &mut Memory<'_>, item: u32, wanted: u64) -> Option<Lot>
     ensures words { gave result (words memory.new) ≡ take_oldest memory.old.limits item wanted (words memory.old) }
     ensures same { Same memory.old memory.new }

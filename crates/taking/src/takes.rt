@@ -30,6 +30,7 @@ fn put_part(answer: &mut [u8], taken: Taken, part: Lot) -> Taken
 }
 
 // Takes what is wanted, one after the other, and writes the lines behind those that are there.
+#[inline(always)]
 fn take_each(memory: &mut Memory<'_>, wants: &[Want], answer: &mut [u8], before: Taken) -> Taken
     requires { before.lines ≤ most_lines memory.old.limits }
     ensures words { words memory.new ≡ (taken_each wants.now memory.old.limits before.lines (words memory.old)).slices }
@@ -73,6 +74,7 @@ fn count_each(memory: &mut Memory<'_>, wants: &[Want], answer: &mut [u8]) -> Tak
 
 /// Takes pieces of items, the oldest lots first, and writes what was taken of which lots as an answer, where it has room.
 #[tactic(auto, unfolding(crate::specs::Takes::told, crate::specs::Takes::take_all))]
+#[inline(always)]
 pub fn take_all(memory: &mut Memory<'_>, wants: &[Want], answer: &mut [u8]) -> Taken
     ensures words { words memory.new ≡ (take_all memory.old.limits wants.now (words memory.old)).slices }
     ensures same { Same memory.old memory.new }
