@@ -5,14 +5,15 @@ use Rattle.layout.specs.declared.head.Total.TheVariants.{Documents}
 use Rattle.layout.specs.declared.limits.Limits.{Limits}
 use Rattle.memory.specs.Books.{total_of, stock_of}
 use Rattle.records.specs.State.{State, state}
+use Rattle.records.specs.declared.account.Account.TheVariants.{Losses}
 use Rattle.records.specs.declared.lot.Lot.{Lot}
 use Rattle.records.specs.declared.stock.Stock.{Stock}
-use Rattle.store.specs.Steps.{After, add_lot, count_in, counted_out}
+use Rattle.store.specs.Steps.{After, add_lot, count_in}
 use Rattle.store.specs.declared.refusal.Refusal.{Refusal}
-use Rattle.taking.specs.Takes.{want, cost_of, take_all}
+use Rattle.taking.specs.Takes.{want, cost_taken, Taking, take_all}
+use Rattle.taking.specs.declared.wants.Want.{Want}
 use Rattle.rules.specs.Checks.{in_time}
-use Rattle.rules.specs.Entering.{entered}
-use Rattle.rules.specs.Going.{summed_out, goes_fits}
+use Rattle.rules.specs.Going.{goods_fit, issued}
 use Rattle.rules.specs.Outcome.{Outcome, outcome, refuse}
 use Rattle.rules.specs.Totals.{raised}
 
@@ -27,18 +28,12 @@ document_more s = state (raised Documents 1 s.wide) s.narrow
 abbrev pub agreed : Stock → State → Outcome
 agreed a s = cond (in_time s) (outcome (before a) (document_more s)) (refuse 9 0 s)
 
--- Q PIECES FEWER: on memory that has them no more they are counted out for their item, and their cost is entered on 8 and 0
-unfoldable pub written_off : Limits → ℕ → ℕ → ℕ → ℕ → State → State
-written_off l i q x d s =
-    summed_out x (entered l (record { left = 8; right = 0; amount = x; «document» = d }) (state (counted_out l i q x s.wide) s.narrow))
+-- PIECES FEWER: they are taken, and go as losses
+abbrev pub written_off : Limits → Want → Stock → ℕ → Taking → Outcome
+written_off l w a d t = outcome (before a) (issued l Losses w (cost_taken t) d t.slices)
 
--- at the cost x of taking them
-abbrev pub lost_at : Limits → ℕ → ℕ → ℕ → Stock → State → Outcome
-lost_at l i q x a s =
-    cond (goes_fits l x s) (outcome (before a) (written_off l i q x (total_of Documents s.wide) (take_all l (want i q ∷ []) s).slices)) (refuse 9 0 s)
-
-abbrev pub lost : Limits → ℕ → ℕ → Stock → State → Outcome
-lost l i q a s = lost_at l i q (cost_of l (want i q) s) a s
+abbrev pub lost : Limits → Want → Stock → State → Outcome
+lost l w a s = cond (goods_fit l w s) (written_off l w a (total_of Documents s.wide) (take_all l (w ∷ []) s)) (refuse 9 0 s)
 
 -- Q PIECES MORE: a lot that costs nothing
 abbrev pub found_lot : ℕ → ℕ → ℕ → Lot
@@ -57,7 +52,7 @@ found l i q a s = cond (in_time s) (placed l a (add_lot l (found_lot i q (total_
 
 -- by what is there
 abbrev pub settled : Limits → ℕ → ℕ → Stock → State → Outcome
-settled l i q a s = cond (nat_lt q a.pieces) (lost l i (a.pieces - q) a s) (cond (q == a.pieces) (agreed a s) (found l i (q - a.pieces) a s))
+settled l i q a s = cond (nat_lt q a.pieces) (lost l (want i (a.pieces - q)) a s) (cond (q == a.pieces) (agreed a s) (found l i (q - a.pieces) a s))
 
 abbrev pub counted : Limits → ℕ → ℕ → State → Outcome
 counted l i q s = cond (nat_lt i l.items) (cond (nat_le q 1000000000) (settled l i q (stock_of i s.wide) s) (refuse 2 0 s)) (refuse 2 0 s)

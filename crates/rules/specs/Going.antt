@@ -6,7 +6,10 @@ use Rattle.layout.specs.declared.head.Counter.TheVariants.{Orders}
 use Rattle.layout.specs.declared.head.Total.TheVariants.{Documents, Booked, Worth}
 use Rattle.layout.specs.declared.limits.Limits.{Limits}
 use Rattle.memory.specs.Books.{count_of, total_of, order_record, stock_of}
+use Rattle.records.specs.Accounts.{number_of}
 use Rattle.records.specs.State.{State, state}
+use Rattle.records.specs.declared.account.Account.{Account}
+use Rattle.records.specs.declared.account.Account.TheVariants.{Stock, CostOfSales}
 use Rattle.records.specs.declared.order.Order.{Order}
 use Rattle.store.specs.Steps.{counted_out}
 use Rattle.taking.specs.Takes.{want, cost_of, cost_taken, Taking, take_all}
@@ -29,20 +32,17 @@ gone l k q s = gone_of l k (order_record l k s.narrow) q s
 abbrev pub summed_out : ℕ → State → State
 summed_out x s = state (raised Documents 1 (raised Booked x (lowered Worth x s.wide))) s.narrow
 
--- on memory that has the pieces no more: they are counted out for their item, and their cost is entered on 6 and 0
-unfoldable pub issued : Limits → Order → ℕ → ℕ → ℕ → State → State
-issued l o q x d s =
-    summed_out x (entered l (record { left = 6; right = 0; amount = x; «document» = d }) (state (counted_out l o.item q x s.wide) s.narrow))
-
-abbrev pub goes_fits : Limits → ℕ → State → Bool
-goes_fits l x s = enters l x s && in_time s
+-- on memory that has what was wanted no more: it is counted out for its item, and its cost is entered on the left of an account
+unfoldable pub issued : Limits → Account → Want → ℕ → ℕ → State → State
+issued l a w x d s =
+    summed_out x (entered l (record { left = number_of a; right = number_of Stock; amount = x; «document» = d }) (state (counted_out l w.item w.pieces x s.wide) s.narrow))
 
 -- whether what goes is within the limits: all that lies there of the item would be, or what is wanted is, at what taking it would cost
 abbrev pub goods_fit : Limits → Want → State → Bool
 goods_fit l w s = (room l 1 (stock_of w.item s.wide).worth s || enters l (cost_of l w s) s) && in_time s
 
 abbrev pub let_go : Limits → Order → ℕ → ℕ → Taking → Outcome
-let_go l o q d t = outcome (lots t.parts) (issued l o q (cost_taken t) d t.slices)
+let_go l o q d t = outcome (lots t.parts) (issued l CostOfSales (want o.item q) (cost_taken t) d t.slices)
 
 -- the answer is what was taken of which lots
 abbrev pub goes : Limits → ℕ → ℕ → State → Outcome

@@ -2,17 +2,16 @@
 
 ghost use Rattle.std.specs.Prelude.{◌≡◌};
 ghost use Rattle.memory.specs.Lent.{words, Same};
-ghost use Rattle.rules.specs.Counting.{agreed, written_off, lost, found, settled, counted};
+ghost use Rattle.rules.specs.Counting.{agreed, lost, found, settled, counted};
 ghost use Rattle.rules.specs.Outcome.{outcome, paired};
 
 use crate::checks::{known_item, next_document, some_count};
-use crate::entering::enter;
-use crate::going::fits;
+use crate::going::{goods_fit, issued};
 use crate::refused::Refused;
-use crate::totals::{lower, raise};
+use crate::totals::raise;
 use layout::Total;
 use memory::Memory;
-use records::{Account, Entry, Lot, Stock};
+use records::{Account, Lot, Stock};
 use taking::Want;
 use wire::Refusal;
 
@@ -28,42 +27,16 @@ fn agreed(memory: &mut Memory<'_>, stock: Stock) -> Result<(u64, u64), Refused>
     Ok((stock.pieces, stock.worth))
 }
 
-// Enters what is lost, on memory that has it no more.
-#[tactic(auto, unfolding(crate::specs::Counting::written_off))]
-fn written_off(memory: &mut Memory<'_>, item: u32, pieces: u64, cost: u64, document: u64)
-    ensures words { words memory.new ≡ written_off memory.old.limits item pieces cost document (words memory.old) }
-    ensures same { Same memory.old memory.new }
-{
-    store::count_out(memory, item, pieces, cost);
-    let entry = Entry {
-        left: Account::Losses.into(),
-        right: Account::Stock.into(),
-        amount: cost,
-        document,
-    };
-    enter(memory, entry);
-    lower(memory, Total::Worth, cost);
-    raise(memory, Total::Booked, cost);
-    raise(memory, Total::Documents, 1);
-}
-
 // So many pieces fewer than there were: the oldest are lost, at what they cost.
-fn lost(
-    memory: &mut Memory<'_>,
-    item: u32,
-    pieces: u64,
-    stock: Stock,
-) -> Result<(u64, u64), Refused>
-    ensures outcome { outcome (paired result) (words memory.new) ≡ lost memory.old.limits item pieces stock (words memory.old) }
+fn lost(memory: &mut Memory<'_>, want: Want, stock: Stock) -> Result<(u64, u64), Refused>
+    ensures outcome { outcome (paired result) (words memory.new) ≡ lost memory.old.limits want stock (words memory.old) }
     ensures same { Same memory.old memory.new }
 {
-    let want = Want { item, pieces };
-    let cost = taking::cost_of(memory.view(), want);
-    let Some(document) = fits(memory.view(), cost) else {
+    let Some(document) = goods_fit(memory.view(), want) else {
         return Err(Refused::first(Refusal::OverLimits));
     };
-    let _ = taking::take_all(memory, &[want], &mut []);
-    written_off(memory, item, pieces, cost, document);
+    let taken = taking::take_all(memory, &[want], &mut []);
+    issued(memory, Account::Losses, want, taken.cost, document);
     Ok((stock.pieces, stock.worth))
 }
 
@@ -106,7 +79,8 @@ fn settled(
 {
     let there = u64::from(pieces);
     if there < stock.pieces {
-        return lost(memory, item, stock.pieces - there, stock);
+        let pieces = stock.pieces - there;
+        return lost(memory, Want { item, pieces }, stock);
     }
     if there == stock.pieces {
         return agreed(memory, stock);

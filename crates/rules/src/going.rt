@@ -7,7 +7,7 @@ ghost use Rattle.memory.specs.Books.{total_of};
 ghost use Rattle.memory.specs.Lent.{seen, words, Same};
 ghost use Rattle.taking.specs.Takes.{cost_taken, tally, told};
 ghost use Rattle.rules.specs.Checks.{if};
-ghost use Rattle.rules.specs.Going.{gone_of, gone, issued, goes_fits, goods_fit, goes};
+ghost use Rattle.rules.specs.Going.{gone_of, gone, issued, goods_fit, goes};
 ghost use Rattle.rules.specs.Outcome.{outcome, told_by};
 
 use crate::checks::{
@@ -22,19 +22,10 @@ use records::{Account, Entry, Order};
 use taking::{Taken, Want};
 use wire::Refusal;
 
-/// The next document's number, if what goes at this cost is within the limits.
-pub fn fits(view: View<'_>, cost: u64) -> Option<u64>
-    ensures { result ≡ if (goes_fits view.entry.limits cost (seen view.entry)) (total_of Documents view.entry.wide.now) }
-{
-    if !enters(view, cost) {
-        return None;
-    }
-    next_document(view)
-}
-
-// The next document's number, if what is wanted can go. It costs no more than all that lies there of its item: only where that is too much
-// is its own cost found beforehand, which takes a walk along the lots.
-fn goods_fit(view: View<'_>, want: Want) -> Option<u64>
+/// The next document's number, if what is wanted can go. It costs no more than all that lies there of its item: only where that is too much
+/// is its own cost found beforehand, which takes a walk along the lots.
+#[inline(always)]
+pub fn goods_fit(view: View<'_>, want: Want) -> Option<u64>
     ensures { result ≡ if (goods_fit view.entry.limits want (seen view.entry)) (total_of Documents view.entry.wide.now) }
 {
     let worth = view.stock(want.item).worth;
@@ -64,15 +55,16 @@ fn take(memory: &mut Memory<'_>, number: u32, order: Order, pieces: u32, answer:
     taking::take_all(memory, &[want], answer)
 }
 
-// Enters what went, on memory that has it no more.
+/// Enters what went on the left of an account, on memory that has it no more, and counts it out for its item.
 #[tactic(auto, unfolding(crate::specs::Going::issued))]
-fn issued(memory: &mut Memory<'_>, order: Order, pieces: u32, cost: u64, document: u64)
-    ensures words { words memory.new ≡ issued memory.old.limits order pieces cost document (words memory.old) }
+#[inline(always)]
+pub fn issued(memory: &mut Memory<'_>, account: Account, want: Want, cost: u64, document: u64)
+    ensures words { words memory.new ≡ issued memory.old.limits account want cost document (words memory.old) }
     ensures same { Same memory.old memory.new }
 {
-    store::count_out(memory, order.item, u64::from(pieces), cost);
+    store::count_out(memory, want.item, want.pieces, cost);
     let entry = Entry {
-        left: Account::CostOfSales.into(),
+        left: account.into(),
         right: Account::Stock.into(),
         amount: cost,
         document,
@@ -118,6 +110,6 @@ pub fn goes(
         return Err(Refused::first(Refusal::OverLimits));
     };
     let taken = take(memory, number, order, pieces, answer);
-    issued(memory, order, pieces, taken.cost, document);
+    issued(memory, Account::CostOfSales, want, taken.cost, document);
     Ok(taken)
 }

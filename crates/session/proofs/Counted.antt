@@ -2,7 +2,7 @@
 use Rattle.std.proofs.Common.{◌≡◌, ℕ, suc, ◌+◌, ◌-◌, ◌^◌, ◌<◌, ◌≤◌, min, Bool, true, false, cond, ◌&&◌, ◌||◌, eqb, ltb, leb, List, [], ◌∷◌, ◌++◌, length, Ok, sym, refl, ap, ◌∙◌, subst, ap₂, inl, inr, append-nil, arith}
 use Rattle.std.proofs.lemmas.List.{length_push, length-map}
 use Rattle.std.proofs.lemmas.Bool.{cond_both, and_parts, leb-true, ltb-true, ltb-false, eqb-true, eqb-false, le-leb, lt-leb, lt-ltb, le-ltb, cases_lt, eq-eqb, ne_eqb}
-use Rattle.firm.specs.Stock.{pick, take, on_hand}
+use Rattle.firm.specs.Stock.{pick, take, on_hand, all_worth}
 use Rattle.firm.specs.Stock as stock
 use Rattle.firm.specs.Ledger.{entry, sum_of}
 use Rattle.firm.specs.Ledger as ledger
@@ -26,14 +26,15 @@ use Rattle.memory.specs.Books.{count_of, total_of, lot_record, stock_of}
 use Rattle.questions.specs.Entries.{entry_of}
 use Rattle.questions.specs.Listing.{lot_of}
 use Rattle.records.specs.State.{State, state}
+use Rattle.records.specs.declared.account.Account.TheVariants.{Losses}
 use Rattle.records.specs.declared.entry.Entry.{Entry}
 use Rattle.records.specs.declared.lot.Lot.{Lot}
 use Rattle.records.specs.declared.stock.Stock.{Stock}
 use Rattle.rules.specs.Checks.{in_time, enters as entering}
-use Rattle.rules.specs.Counting.{before, document_more, agreed, written_off, lost_at, lost, found_lot, placed, found, settled}
+use Rattle.rules.specs.Counting.{before, document_more, agreed, written_off, lost, found_lot, placed, found, settled}
 use Rattle.rules.specs.Counting as counting
 use Rattle.rules.specs.Entering.{entered}
-use Rattle.rules.specs.Going.{summed_out, goes_fits}
+use Rattle.rules.specs.Going.{summed_out, issued, goods_fit}
 use Rattle.rules.specs.Outcome.{outcome, refuse}
 use Rattle.rules.specs.Totals.{raised, lowered}
 use Rattle.store.specs.Laws.{with_lots, with_entries, with_total, with_stocks, with_balances, stock_with, stock_without}
@@ -42,14 +43,15 @@ use Rattle.store.specs.View.{Kept, Stands}
 use Rattle.store.proofs.LotLaws.{adds_lot, refuses_lot}
 use Rattle.store.proofs.SumLaws.{counts_in, counts_out}
 use Rattle.taking.specs.Laws.{LotsMean, Priced, with_all_lots, Took}
-use Rattle.taking.specs.Takes.{want, cost_of, take_all}
+use Rattle.taking.specs.Takes.{want, cost_of, cost_taken, take_all}
 use Rattle.taking.specs.declared.wants.Want.{Want}
 use Rattle.taking.proofs.AllTaking.{one_wanted}
 use Rattle.taking.proofs.Costing.{costs}
 use Rattle.taking.proofs.TakingLaws.{takes}
 use Rattle.session.specs.Means.{Means, stock_sums, account_sums, limits_of, Sized}
-use Rattle.session.proofs.Counting.{worth_most, on_hand_small, stock_more, stock_less, take_few}
+use Rattle.session.proofs.Counting.{worth_most, cost_most, on_hand_small, stock_more, stock_less, take_few}
 use Rattle.session.proofs.Entering.{Entered, enters}
+use Rattle.session.proofs.GoodsFit.{goes_fits, goods_are}
 use Rattle.session.proofs.Steps.{lots_with, raised_stands, lowered_stands}
 use Rattle.session.proofs.Small.{sized_taken, sized_lot_placed, sized_lot_counted, sized_counted_out, sized_raised, sized_lowered}
 use Rattle.session.proofs.Turning.{Done, refuses, goes}
@@ -270,6 +272,9 @@ module _ (l : Limits) (s : State) (f : Firm) (i q : ℕ) (can : ℕ → Bool) (c
       cost_is : cost_of (limits_of l) w s ≡ x
       cost_is = costs (limits_of l) s m f.lots w good h.stands lots_mean priced known
 
+      goods_are_in : goods_fit (limits_of l) w s ≡ goes_fits (limits_of l) x s
+      goods_are_in = goods_are (limits_of l) w x s cost_is (omega (arith, cost_most f.lots i p, ap (λ z. z.worth) stock_is))
+
       abbrev lost_firm : ℕ → Firm
       lost_firm k = next f t.left f.orders f.recipes (entry 8 0 x k)
 
@@ -346,8 +351,8 @@ module _ (l : Limits) (s : State) (f : Firm) (i q : ℕ) (can : ℕ → Bool) (c
             (omega (arith, tested.0, stands₂.entries.count, h.stands.entries.count)) (omega (arith, tested.1, h.stands.frame.totals Booked, h.booked))
 
         -- the totals, and what all of it stands for
-        lost_means : Means (limits_of l) (written_off (limits_of l) i p x d s₁) (changed f c)
-        unfolding written_off
+        lost_means : Means (limits_of l) (issued (limits_of l) Losses w x d s₁) (changed f c)
+        unfolding issued
         lost_means =
             subst (Means (limits_of l) (summed_out x s₃)) (sym lost_is) (record {
               kept = k₆;
@@ -386,20 +391,23 @@ module _ (l : Limits) (s : State) (f : Firm) (i q : ℕ) (can : ℕ → Bool) (c
             k₆ : Kept
             k₆ = with_total Documents (min (2 ^ 64 - 1) (k₅.totals Documents + 1)) k₅
 
-      at_cost : Done l s f c (lost_at (limits_of l) i p x b s)
-      at_cost =
-          cond_both (goes_fits (limits_of l) x s) (outcome (before b) (written_off (limits_of l) i p x d (take_all (limits_of l) (w ∷ []) s).slices)) (refuse 9 0 s) (Done l s f c)
-          (λ fit. goes l s f c _ _ (turned_not l f c g by_0 (lost_fits ∙ fit)) says (lost_means fit))
-          (λ over. refuses l s f c 9 0 (turned_full l f c g by_0 (lost_fits ∙ over)) (omega arith) at_9 h)
+        -- what was taken cost what the books say
+        cost_taken_is : cost_taken (take_all (limits_of l) (w ∷ []) s) ≡ x
+        cost_taken_is = omega (arith, ap all_worth took.parts, (take_keeps f.lots i p).1, tested.1)
 
-      -- so at the cost that is found by reading
-      lost_done : Done l s f c (lost (limits_of l) i p b s)
-      lost_done = subst (λ (k : ℕ). Done l s f c (lost_at (limits_of l) i p k b s)) (sym cost_is) at_cost
+      lost_done : Done l s f c (lost (limits_of l) w b s)
+      lost_done =
+          cond_both (goods_fit (limits_of l) w s) (written_off (limits_of l) w b d (take_all (limits_of l) (w ∷ []) s)) (refuse 9 0 s) (Done l s f c)
+          (λ within.
+          let fit : goes_fits (limits_of l) x s ≡ true = sym goods_are_in ∙ within in
+          goes l s f c _ _ (turned_not l f c g by_0 (lost_fits ∙ fit)) says
+          (subst (λ (k : ℕ). Means (limits_of l) (issued (limits_of l) Losses w k d (take_all (limits_of l) (w ∷ []) s).slices) (changed f c)) (sym (cost_taken_is fit)) (lost_means fit)))
+          (λ over. refuses l s f c 9 0 (turned_full l f c g by_0 (lost_fits ∙ sym goods_are_in ∙ over)) (omega arith) at_9 h)
 
     settled_done : Done l s f c (settled (limits_of l) i q a s)
     settled_done =
         subst (λ (z : Stock). Done l s f c (settled (limits_of l) i q z s)) (sym stock_is)
-        (cond_both (ltb q n) (lost (limits_of l) i (n - q) b s) (cond (eqb q n) (agreed b s) (found (limits_of l) i (q - n) b s)) (Done l s f c)
+        (cond_both (ltb q n) (lost (limits_of l) (want i (n - q)) b s) (cond (eqb q n) (agreed b s) (found (limits_of l) i (q - n) b s)) (Done l s f c)
         (λ e. lost_done (ltb-true q n e))
         (λ e. cond_both (eqb q n) (agreed b s) (found (limits_of l) i (q - n) b s) (Done l s f c)
         (λ y. agreed_done (eqb-true q n y))

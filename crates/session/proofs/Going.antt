@@ -1,7 +1,7 @@
 -- Goods that go on an order to sell, at any stage that does that call. Assumes nothing.
 use Rattle.std.proofs.Common.{◌≡◌, ℕ, suc, ◌+◌, ◌-◌, ◌^◌, ◌<◌, ◌≤◌, min, Bool, true, false, cond, ◌&&◌, ◌||◌, eqb, ltb, leb, List, [], ◌∷◌, ◌++◌, length, get_or, set, Ok, sym, refl, ap, ◌∙◌, subst, ap₂, arith, length-set}
 use Rattle.std.proofs.lemmas.List.{length-map, map-set, get_or-map}
-use Rattle.std.proofs.lemmas.Bool.{cond_both, and_from, and_parts, leb-true, ltb-true, le-leb}
+use Rattle.std.proofs.lemmas.Bool.{cond_both, and_parts, leb-true, ltb-true, le-leb}
 use Rattle.firm.specs.Stock.{pick, take, on_hand, all_worth}
 use Rattle.firm.specs.Stock as stock
 use Rattle.firm.specs.Ledger.{entry}
@@ -27,11 +27,12 @@ use Rattle.memory.specs.Books.{count_of, total_of, order_record, put_order, stoc
 use Rattle.questions.specs.Entries.{entry_of}
 use Rattle.records.specs.Kinds.{order_kind}
 use Rattle.records.specs.State.{State, state}
+use Rattle.records.specs.declared.account.Account.TheVariants.{CostOfSales}
 use Rattle.records.specs.declared.entry.Entry.{Entry}
 use Rattle.records.specs.declared.order.Order.{Order}
-use Rattle.rules.specs.Checks.{in_time, room, enters as entering}
+use Rattle.rules.specs.Checks.{in_time, enters as entering}
 use Rattle.rules.specs.Entering.{entered}
-use Rattle.rules.specs.Going.{gone, summed_out, issued, goes_fits, goods_fit, let_go}
+use Rattle.rules.specs.Going.{gone, summed_out, issued, goods_fit, let_go}
 use Rattle.rules.specs.Going as going
 use Rattle.rules.specs.Outcome.{refuse}
 use Rattle.rules.specs.Receiving.{moved_more, with_order}
@@ -50,6 +51,7 @@ use Rattle.taking.proofs.TakingLaws.{takes}
 use Rattle.session.specs.Means.{Means, order_of, limits_of, Sized}
 use Rattle.session.proofs.Counting.{cost_most, stock_less, take_few}
 use Rattle.session.proofs.Entering.{Entered, enters}
+use Rattle.session.proofs.GoodsFit.{goes_fits, goods_are}
 use Rattle.session.proofs.Steps.{raised_stands, lowered_stands}
 use Rattle.session.proofs.Small.{sized_put_order, sized_taken, sized_counted_out, sized_raised, sized_lowered, order_small}
 use Rattle.session.proofs.Turning.{Done, refuses, goes}
@@ -168,24 +170,8 @@ module _ (l : Limits) (s : State) (f : Firm) (k q : ℕ) (can : ℕ → Bool) (c
     no_less : x ≤ (stock_of o.item s.wide).worth
     no_less = omega (arith, cost_most f.lots o.item q, ap (λ z. z.worth) (h.stands.sums.stocks o.item known.item ∙ h.stocks o.item known.item))
 
-    goods_are : goods_fit (limits_of l) w s ≡ goes_fits (limits_of l) x s
-    goods_are =
-        ap (λ (b : Bool). b && in_time s)
-        (ap (λ (n : ℕ). room (limits_of l) 1 (stock_of o.item s.wide).worth s || entering (limits_of l) n s) cost_is
-        ∙ implied (room (limits_of l) 1 (stock_of o.item s.wide).worth s) (entering (limits_of l) x s) whole)
-      where
-        implied : (u v : Bool) → (u ≡ true → v ≡ true) → (u || v) ≡ v
-        implied true v to = sym (to refl)
-        implied false v to = refl
-
-        one_most : (n : ℕ) → cond (eqb n 0) 0 1 ≤ 1
-        one_most n = cond_both (eqb n 0) 0 1 (λ (m : ℕ). m ≤ 1) (λ _. omega arith) (λ _. omega arith)
-
-        whole : room (limits_of l) 1 (stock_of o.item s.wide).worth s ≡ true → entering (limits_of l) x s ≡ true
-        whole all =
-            let p = and_parts (leb (count_of Entries s.narrow + 1) l.entries) (leb (total_of Booked s.wide + (stock_of o.item s.wide).worth) 1000000000000000) all in
-            and_from (leb (count_of Entries s.narrow + cond (eqb x 0) 0 1) l.entries) (leb (total_of Booked s.wide + x) 1000000000000000)
-            (le-leb _ _ (omega (arith, leb-true _ _ p.0, one_most x))) (le-leb _ _ (omega (arith, leb-true _ _ p.1, no_less)))
+    goods_are_in : goods_fit (limits_of l) w s ≡ goes_fits (limits_of l) x s
+    goods_are_in = goods_are (limits_of l) w x s cost_is no_less
 
     -- WHETHER IT FITS: the firm afterwards, by the order and the document
     abbrev target : firm.Order → ℕ → Firm
@@ -300,7 +286,7 @@ module _ (l : Limits) (s : State) (f : Firm) (k q : ℕ) (can : ℕ → Bool) (c
           (omega (arith, tested.0, stands₂.entries.count, h.stands.entries.count)) (omega (arith, tested.1, h.stands.frame.totals Booked, h.booked))
 
       -- the totals, and what all of it stands for
-      issued_means : Means (limits_of l) (issued (limits_of l) o q x d s₁) (changed f c)
+      issued_means : Means (limits_of l) (issued (limits_of l) CostOfSales w x d s₁) (changed f c)
       unfolding issued
       issued_means =
           subst (Means (limits_of l) (summed_out x s₃)) (sym changed_is) (record {
@@ -360,11 +346,11 @@ module _ (l : Limits) (s : State) (f : Firm) (k q : ℕ) (can : ℕ → Bool) (c
       last_done =
           cond_both (goods_fit (limits_of l) w s) (let_go (limits_of l) o q d (gone (limits_of l) k q s)) (refuse 9 0 s) (Done l s f c)
           (λ within.
-          let fit : goes_fits (limits_of l) x s ≡ true = sym goods_are ∙ within in
+          let fit : goes_fits (limits_of l) x s ≡ true = sym goods_are_in ∙ within in
           goes l s f c _ _ (turned_not l f c (good_is ∙ g) by_0 (fits_are ∙ fit)) (says g (leb-true _ _ enough) lies fit)
-          (subst (λ (n : ℕ). Means (limits_of l) (issued (limits_of l) o q n d (gone (limits_of l) k q s).slices) (changed f c)) (sym (cost_taken_is g (leb-true _ _ enough) lies fit))
+          (subst (λ (n : ℕ). Means (limits_of l) (issued (limits_of l) CostOfSales w n d (gone (limits_of l) k q s).slices) (changed f c)) (sym (cost_taken_is g (leb-true _ _ enough) lies fit))
           (issued_means g (leb-true _ _ enough) lies fit)))
-          (λ over. refuses l s f c 9 0 (turned_full l f c (good_is ∙ g) by_0 (fits_are ∙ sym goods_are ∙ over)) (omega arith) at_9 h)
+          (λ over. refuses l s f c 9 0 (turned_full l f c (good_is ∙ g) by_0 (fits_are ∙ sym goods_are_in ∙ over)) (omega arith) at_9 h)
 
   pub goes_done : Done l s f c (going.goes (limits_of l) k q s)
   goes_done =

@@ -10,6 +10,7 @@ pub mod RecipeWants
 pub mod CountingOff
 pub mod Entering
 pub mod Receiving
+pub mod GoodsFit
 pub mod Going
 pub mod Counted
 pub mod Making

@@ -26,11 +26,11 @@ use Rattle.rules.specs.Recipes.{some_parts, recipe_fits, recipe_kept}
 use Rattle.rules.specs.Checks.{one, owed, in_time}
 use Rattle.rules.specs.Ordering.{new_order, order_fields, added, ordered}
 use Rattle.rules.specs.Outcome.{Outcome, outcome, refuse}
-use Rattle.rules.specs.Going.{gone, goes_fits, let_go}
+use Rattle.rules.specs.Going.{gone, goods_fit, let_go}
 use Rattle.rules.specs.Paying.{paid, pays_fits, pays}
 use Rattle.rules.specs.Receiving.{comes_fits, new_lot, placed, stored, moved_more, with_order}
 use Rattle.taking.specs.Parts.{part_of}
-use Rattle.taking.specs.Takes.{want, cost_of, take_all, take_counted}
+use Rattle.taking.specs.Takes.{want, take_all, take_counted}
 use Rattle.taking.specs.declared.wants.Want.{Want}
 use Rattle.taking.proofs.CountingOff.{counted_few}
 use Rattle.taking.proofs.StepKeeping.{parts_pass, counted_pass}
@@ -162,11 +162,8 @@ module _ (l : Limits) (s : State) (z : Sized l s) where
       (λ _. sized_put_order l k (moved_more (wanted k) q) s (record { item = o.item; pieces = o.pieces; price = o.price; moved = omega (arith, le, o.pieces); billed = o.billed }) z)
       (λ _. z)
 
-  abbrev cost : ℕ → ℕ → ℕ
-  cost k q = cost_of l (want (wanted k).item q) s
-
   abbrev let_fit : ℕ → ℕ → Outcome
-  let_fit k q = cond (goes_fits l (cost k q) s) (let_go l (wanted k) q (cost k q) document (gone l k q s)) (refuse 9 0 s)
+  let_fit k q = cond (goods_fit l (want (wanted k).item q) s) (let_go l (wanted k) q document (gone l k q s)) (refuse 9 0 s)
 
   abbrev there : ℕ → ℕ → Outcome
   there k q = cond (leb q (stock_of (wanted k).item s.wide).pieces) (let_fit k q) (refuse 7 1 s)
@@ -184,7 +181,7 @@ module _ (l : Limits) (s : State) (z : Sized l s) where
       (λ _. cond_both (wanted k).sells (moving k q) (refuse 5 0 s) ToldCarried
       (λ _. cond_both (leb ((wanted k).moved + q) (wanted k).pieces) (there k q) (refuse 6 1 s) ToldCarried
       (λ le. cond_both (leb q (stock_of (wanted k).item s.wide).pieces) (let_fit k q) (refuse 7 1 s) ToldCarried
-      (λ _. cond_both (goes_fits l (cost k q) s) (let_go l (wanted k) q (cost k q) document (gone l k q s)) (refuse 9 0 s) ToldCarried
+      (λ _. cond_both (goods_fit l (want (wanted k).item q) s) (let_go l (wanted k) q document (gone l k q s)) (refuse 9 0 s) ToldCarried
       (λ _. taken_carried l _ (with_order l k (moved_more (wanted k) q) s) g (moved_small k q (leb-true _ _ le)))
       (λ _. refl))
       (λ _. refl))
@@ -302,7 +299,7 @@ module _ (l : Limits) (s : State) (z : Sized l s) where
       cond_both (ltb i l.items) (cond (leb q 1000000000) settling (refuse 2 0 s)) (refuse 2 0 s) ToldCarried
       (λ _. cond_both (leb q 1000000000) settling (refuse 2 0 s) ToldCarried
       (λ _. cond_both (ltb q a.pieces) losing (cond (eqb q a.pieces) agreeing finding) ToldCarried
-      (λ _. cond_both (goes_fits l cost s) _ (refuse 9 0 s) ToldCarried (λ _. before_carried) (λ _. refl))
+      (λ _. cond_both (goods_fit l (want i (a.pieces - q)) s) _ (refuse 9 0 s) ToldCarried (λ _. before_carried) (λ _. refl))
       (λ _. cond_both (eqb q a.pieces) agreeing finding ToldCarried
       (λ _. cond_both (in_time s) _ (refuse 9 0 s) ToldCarried (λ _. before_carried) (λ _. refl))
       (λ _. cond_both (in_time s) (counting.placed l a lot_more) (refuse 9 0 s) ToldCarried (λ _. found_carried lot_more.left lot_more.came) (λ _. refl))))
@@ -312,14 +309,11 @@ module _ (l : Limits) (s : State) (z : Sized l s) where
       a : Stock
       a = stock_of i s.wide
 
-      cost : ℕ
-      cost = cost_of l (want i (a.pieces - q)) s
-
       lot_more : After ℕ State
       lot_more = add_lot l (counting.found_lot i (q - a.pieces) document) s
 
       losing : Outcome
-      losing = counting.lost l i (a.pieces - q) a s
+      losing = counting.lost l (want i (a.pieces - q)) a s
 
       agreeing : Outcome
       agreeing = counting.agreed a s
