@@ -1,8 +1,9 @@
 -- Rows in the middle of slices: what a part of one leaves all of whose words are written, and what is made of two that are read.
-use Rattle.std.proofs.Common.{◌≡◌, ℕ, ◌+◌, ◌-◌, ◌<◌, ◌≤◌, List, ◌++◌, length, get_or, take, drop, sym, ap, ◌∙◌, arith}
+use Rattle.std.proofs.Common.{◌≡◌, ℕ, suc, ◌+◌, ◌-◌, ◌<◌, ◌≤◌, List, [], ◌∷◌, ◌++◌, length, get_or, set, take, drop, sym, ap, ◌∙◌, arith, length-drop}
+use Rattle.std.proofs.Math.Seq.{take-suc, take-suc-set}
 use borrow.Rule.Slice.PartMut.{put_mid}
 use Rattle.std.proofs.lemmas.Bool.{cond-true, le-leb, and_from}
-use Rattle.std.proofs.lemmas.List.{drop-drop, get_or-take, get_or-drop}
+use Rattle.std.proofs.lemmas.List.{drop-drop, take_all, length-take-le, get_or-take, get_or-drop}
 use Rattle.records.specs.Kind.{over, word, Kind, Sound, lies, read}
 use Rattle.records.specs.State.{state}
 use Rattle.records.proofs.Over.{word_is}
@@ -13,6 +14,20 @@ part_over {W} a k s ps ws long e =
     let d : a + k - a ≡ k = omega arith in
     ap (λ (ys : List W). put_mid a (a + k - a) s ys) e ∙ ap (λ (j : ℕ). take a s ++ (ws ++ drop j (drop a s))) d
     ∙ ap (λ (zs : List W). take a s ++ (ws ++ zs)) (drop-drop k a s ∙ ap (λ (j : ℕ). drop (a + j) s) (sym long))
+
+-- as many words as the part, written one after the other, are the part
+pub part_long : {W : Type 0} (a k : ℕ) (s ps : List W) → a + k ≤ length s → length ps ≡ length (take (a + k - a) (drop a s)) → length ps ≡ k
+part_long a k s ps le e = e ∙ length-take-le (a + k - a) (drop a s) (omega (arith, length-drop a s)) ∙ omega arith
+
+pub part_written : {W : Type 0} (n k : ℕ) (ps ws : List W) (d : W) → length ps ≡ n → length ws ≡ n → k < n → take k ps ≡ take k ws →
+    take (k + 1) (set ps k (get_or ws k d)) ≡ take (k + 1) ws
+part_written {W} n k ps ws d long as_long lt so_far =
+    let more : k + 1 ≡ suc k = omega arith in
+    ap (λ (j : ℕ). take j (set ps k (get_or ws k d))) more ∙ take-suc-set ps k (get_or ws k d) (omega arith) ∙ ap (λ (xs : List W). xs ++ (get_or ws k d ∷ [])) so_far
+    ∙ sym (take-suc ws k d (omega arith)) ∙ ap (λ (j : ℕ). take j ws) (sym more)
+
+pub part_whole : {W : Type 0} (n k : ℕ) (ps ws : List W) → length ps ≡ n → length ws ≡ n → n ≤ k → take k ps ≡ take k ws → ps ≡ ws
+part_whole n k ps ws long as_long le so_far = sym (take_all k ps (omega arith)) ∙ so_far ∙ take_all k ws (omega arith)
 
 -- a word of a row that is read
 row_word : (s ws : List ℕ) (a k j : ℕ) → ws ≡ take k (drop a s) → j < k → word ws 0 j ≡ word s a j

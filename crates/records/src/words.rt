@@ -26,5 +26,9 @@ pub fn put<W: Copy + Drop, const N: usize>(words: &mut [W], at: usize, row: [W; 
     requires { at + N ≤ length words.old }
     ensures { words.new ≡ over at row words.old }
 {
-    words[at..at + N].copy_from_slice(&row);
+    // A loop and not `copy_from_slice`, which asks first whether the two lie over each other.
+    let part = &mut words[at..at + N];
+    for k in 0..N {
+        part[k] = row[k];
+    }
 }
