@@ -12,21 +12,18 @@ use Rattle.store.specs.Steps.{After, add_lot, count_in}
 use Rattle.store.specs.declared.refusal.Refusal.{Refusal}
 use Rattle.taking.specs.Takes.{want, cost_taken, Taking, take_all}
 use Rattle.taking.specs.declared.wants.Want.{Want}
-use Rattle.rules.specs.Checks.{in_time}
+use Rattle.rules.specs.Checks.{document_fits}
 use Rattle.rules.specs.Going.{goods_fit, issued}
 use Rattle.rules.specs.Outcome.{Outcome, outcome, refuse}
-use Rattle.rules.specs.Totals.{raised}
+use Rattle.rules.specs.Totals.{document_more}
 
 -- what an item had before the count
 abbrev pub before : Stock → Answer
 before a = two a.pieces a.worth
 
-abbrev pub document_more : State → State
-document_more s = state (raised Documents 1 s.wide) s.narrow
-
 -- AS MANY are there: nothing but a document more
 abbrev pub agreed : Stock → State → Outcome
-agreed a s = cond (in_time s) (outcome (before a) (document_more s)) (refuse 9 0 s)
+agreed a s = cond (document_fits s) (outcome (before a) (document_more s)) (refuse 9 0 s)
 
 -- PIECES FEWER: they are taken, and go as losses
 abbrev pub written_off : Limits → Want → Stock → ℕ → Taking → Outcome
@@ -48,7 +45,7 @@ abbrev pub placed : Limits → Stock → After ℕ State → Outcome
 placed l a r = stored l a r.left r.came
 
 abbrev pub found : Limits → ℕ → ℕ → Stock → State → Outcome
-found l i q a s = cond (in_time s) (placed l a (add_lot l (found_lot i q (total_of Documents s.wide)) s)) (refuse 9 0 s)
+found l i q a s = cond (document_fits s) (placed l a (add_lot l (found_lot i q (total_of Documents s.wide)) s)) (refuse 9 0 s)
 
 -- by what is there
 abbrev pub settled : Limits → ℕ → ℕ → Stock → State → Outcome

@@ -14,7 +14,7 @@ use Rattle.records.specs.declared.order.Order.{Order}
 use Rattle.store.specs.Steps.{counted_out}
 use Rattle.taking.specs.Takes.{want, cost_of, cost_taken, Taking, take_all}
 use Rattle.taking.specs.declared.wants.Want.{Want}
-use Rattle.rules.specs.Checks.{in_time, room, enters}
+use Rattle.rules.specs.Checks.{document_fits, room, enters}
 use Rattle.rules.specs.Entering.{entered}
 use Rattle.rules.specs.Outcome.{Outcome, outcome, refuse}
 use Rattle.rules.specs.Receiving.{moved_more, with_order}
@@ -39,7 +39,7 @@ issued l a w x d s =
 
 -- whether what goes is within the limits: all that lies there of the item would be, or what is wanted is, at what taking it would cost
 abbrev pub goods_fit : Limits → Want → State → Bool
-goods_fit l w s = (room l 1 (stock_of w.item s.wide).worth s || enters l (cost_of l w s) s) && in_time s
+goods_fit l w s = (room l 1 (stock_of w.item s.wide).worth s || enters l (cost_of l w s) s) && document_fits s
 
 abbrev pub let_go : Limits → Order → ℕ → ℕ → Taking → Outcome
 let_go l o q d t = outcome (lots t.parts) (issued l CostOfSales (want o.item q) (cost_taken t) d t.slices)

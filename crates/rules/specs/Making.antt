@@ -15,9 +15,9 @@ use Rattle.store.specs.Steps.{After, sum, first_lot, add_lot, count_in}
 use Rattle.store.specs.declared.refusal.Refusal.{Refusal}
 use Rattle.taking.specs.Takes.{want, Taking, take_counted}
 use Rattle.taking.specs.declared.wants.Want.{Want}
-use Rattle.rules.specs.Checks.{in_time}
+use Rattle.rules.specs.Checks.{document_fits}
 use Rattle.rules.specs.Outcome.{Outcome, outcome, refuse}
-use Rattle.rules.specs.Totals.{raised}
+use Rattle.rules.specs.Totals.{document_more}
 
 -- WHAT IS WANTED for q pieces: of each part of a recipe, 16 at most, so many pieces each
 abbrev pub row_from : ℕ → ℕ → ℕ
@@ -70,7 +70,7 @@ abbrev pub has_place : Limits → List Want → State → Bool
 has_place l ws s = nat_lt (count_of Lots s.narrow) l.lots || frees l ws s
 
 abbrev pub makes_fits : Limits → List Want → State → Bool
-makes_fits l ws s = has_place l ws s && in_time s
+makes_fits l ws s = has_place l ws s && document_fits s
 
 -- THE LOT that is made, counted for its item; and there is a document more
 abbrev pub counted_new : Limits → State → Result ℕ Refusal → State
@@ -80,12 +80,9 @@ counted_new l t (Err e) = t
 abbrev pub lot_kept : Limits → After ℕ State → State
 lot_kept l a = counted_new l a.left a.came
 
-abbrev pub one_document : State → State
-one_document s = state (raised Documents 1 s.wide) s.narrow
-
 -- the lot is kept, and there is a document more
 unfoldable pub stored_new : Limits → Lot → State → State
-stored_new l x s = one_document (lot_kept l (add_lot l x s))
+stored_new l x s = document_more (lot_kept l (add_lot l x s))
 
 -- what was taken costs as much as its parts
 abbrev pub cost_all : Taking → ℕ

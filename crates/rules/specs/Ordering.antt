@@ -8,7 +8,7 @@ use Rattle.records.specs.State.{State, state}
 use Rattle.records.specs.declared.order.Order.{Order}
 use Rattle.store.specs.Steps.{After, add_order}
 use Rattle.store.specs.declared.refusal.Refusal.{Refusal}
-use Rattle.rules.specs.Checks.{in_time}
+use Rattle.rules.specs.Checks.{document_fits}
 use Rattle.rules.specs.Outcome.{Outcome, outcome, refuse}
 use Rattle.rules.specs.Totals.{raised}
 
@@ -28,4 +28,4 @@ added w a = ordered_by w a.left a.came
 
 -- the checks in their order, and then the step
 abbrev pub ordered : Limits → Bool → ℕ → ℕ → ℕ → State → Outcome
-ordered l sells i q p s = cond (order_fields l i q p) (cond (in_time s) (added s.wide (add_order l (new_order sells i q p) s.narrow)) (refuse 9 0 s)) (refuse 2 0 s)
+ordered l sells i q p s = cond (order_fields l i q p) (cond (document_fits s) (added s.wide (add_order l (new_order sells i q p) s.narrow)) (refuse 9 0 s)) (refuse 2 0 s)

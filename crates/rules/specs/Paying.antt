@@ -2,25 +2,21 @@
 use Rattle.std.specs.Prelude.{ℕ, Bool, cond, ◌&&◌}
 use Rattle.firm.specs.Calls.{number}
 use Rattle.firm.specs.Refusals.{some_money}
-use Rattle.layout.specs.declared.head.Total.TheVariants.{Documents, Booked}
+use Rattle.layout.specs.declared.head.Total.TheVariants.{Documents}
 use Rattle.layout.specs.declared.limits.Limits.{Limits}
 use Rattle.memory.specs.Books.{total_of}
-use Rattle.records.specs.State.{State, state}
-use Rattle.rules.specs.Checks.{owed, in_time, enters}
+use Rattle.records.specs.State.{State}
+use Rattle.rules.specs.Checks.{owed, document_fits, enters}
 use Rattle.rules.specs.Entering.{entered}
 use Rattle.rules.specs.Outcome.{Outcome, outcome, refuse}
-use Rattle.rules.specs.Totals.{raised}
-
--- all entries come to x more, and there is a document more
-abbrev pub summed_paid : ℕ → State → State
-summed_paid x s = state (raised Documents 1 (raised Booked x s.wide)) s.narrow
+use Rattle.rules.specs.Totals.{booked}
 
 -- x is entered on the left of account a and on the right of account b, by the document d
 unfoldable pub paid : Limits → ℕ → ℕ → ℕ → ℕ → State → State
-paid l a b x d s = summed_paid x (entered l (record { left = a; right = b; amount = x; «document» = d }) s)
+paid l a b x d s = booked x (entered l (record { left = a; right = b; amount = x; «document» = d }) s)
 
 abbrev pub pays_fits : Limits → ℕ → State → Bool
-pays_fits l x s = enters l x s && in_time s
+pays_fits l x s = enters l x s && document_fits s
 
 -- the answer is the document's number
 abbrev pub pays : Limits → ℕ → ℕ → ℕ → State → Outcome

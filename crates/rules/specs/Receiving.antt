@@ -11,7 +11,7 @@ use Rattle.records.specs.declared.lot.Lot.{Lot}
 use Rattle.records.specs.declared.order.Order.{Order}
 use Rattle.store.specs.Steps.{After, add_lot, set_order, count_in}
 use Rattle.store.specs.declared.refusal.Refusal.{Refusal}
-use Rattle.rules.specs.Checks.{in_time, enters, stores}
+use Rattle.rules.specs.Checks.{document_fits, enters, worth_fits}
 use Rattle.rules.specs.Entering.{entered}
 use Rattle.rules.specs.Outcome.{Outcome, outcome, refuse}
 use Rattle.rules.specs.Totals.{raised}
@@ -33,7 +33,7 @@ received l k o q d s =
     summed (q * o.price) (entered l (record { left = 0; right = 1; amount = q * o.price; «document» = d }) (with_order l k (moved_more o q) s))
 
 abbrev pub comes_fits : Limits → ℕ → State → Bool
-comes_fits l x s = enters l x s && (stores x s && in_time s)
+comes_fits l x s = enters l x s && (worth_fits x s && document_fits s)
 
 -- the lot that comes
 abbrev pub new_lot : Order → ℕ → ℕ → Lot

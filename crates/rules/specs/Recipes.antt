@@ -11,7 +11,7 @@ use Rattle.records.specs.State.{State, state}
 use Rattle.records.specs.declared.part.Part.{Part}
 use Rattle.store.specs.Steps.{add_part, add_recipe}
 use Rattle.wire.specs.Said.{are_parts, parts_in}
-use Rattle.rules.specs.Checks.{if, in_time}
+use Rattle.rules.specs.Checks.{if, document_fits}
 use Rattle.rules.specs.Outcome.{Outcome, outcome, refuse}
 use Rattle.rules.specs.Totals.{raised}
 
@@ -33,7 +33,7 @@ some_parts ps i = good_parts ps i && (nat_le 1 (length ps) && nat_le (length ps)
 
 -- there is room for a row for each of n parts and one in front of them, and for a document more
 abbrev pub recipe_fits : Limits → ℕ → State → Bool
-recipe_fits l n s = nat_le (count_of Parts s.narrow + (1 + n)) l.parts && in_time s
+recipe_fits l n s = nat_le (count_of Parts s.narrow + (1 + n)) l.parts && document_fits s
 
 -- each part comes behind those that are there
 unfoldable pub parts_added : Limits → List stock.Part → List ℕ → List ℕ

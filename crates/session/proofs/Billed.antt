@@ -20,9 +20,9 @@ use Rattle.memory.specs.Books.{count_of, total_of, order_record, put_order}
 use Rattle.questions.specs.Entries.{entry_of}
 use Rattle.records.specs.State.{State, state}
 use Rattle.records.specs.declared.order.Order.{Order}
-use Rattle.rules.specs.Billing.{billed_more, bill_fits, booked, order_billed}
-use Rattle.rules.specs.Checks.{in_time, room}
-use Rattle.rules.specs.Totals.{raised}
+use Rattle.rules.specs.Billing.{billed_more, bill_fits, order_billed}
+use Rattle.rules.specs.Checks.{document_fits, room}
+use Rattle.rules.specs.Totals.{raised, booked}
 use Rattle.store.specs.Laws.{with_orders, with_entries, with_total, with_balances}
 use Rattle.store.specs.Steps.{After, after, set_order}
 use Rattle.store.specs.View.{Kept, Stands}
@@ -56,7 +56,7 @@ module _ (l : Limits) (s : State) (f : Firm) (k q : ℕ) (good : Good (limits_of
       fits l (billed_firm y es) ≡ bill_fits (limits_of l) n x s
   billed_fits y es n x long sum =
       let fit = reached_parts l f r in
-      fits_by l (billed_firm y es) true true true (leb (count_of Entries s.narrow + n) l.entries) (leb (total_of Booked s.wide + x) 1000000000000000) true (in_time s)
+      fits_by l (billed_firm y es) true true true (leb (count_of Entries s.narrow + n) l.entries) (leb (total_of Booked s.wide + x) 1000000000000000) true (document_fits s)
       (ap (λ (i : ℕ). leb i l.orders) (length-set f.orders k (firm.billed_more y q)) ∙ fit.orders)
       fit.lots
       fit.parts
@@ -64,7 +64,7 @@ module _ (l : Limits) (s : State) (f : Firm) (k q : ℕ) (good : Good (limits_of
       (ap (λ (i : ℕ). leb i 1000000000000000) (sum ∙ ap (λ (i : ℕ). i + x) (sym (h.stands.frame.totals Booked ∙ h.booked))))
       fit.worth
       (ap (λ (i : ℕ). leb (suc i) 1099511627776) (sym (documents_are l s f k r h)))
-      ∙ both (leb (count_of Entries s.narrow + n) l.entries) (leb (total_of Booked s.wide + x) 1000000000000000) (in_time s)
+      ∙ both (leb (count_of Entries s.narrow + n) l.entries) (leb (total_of Booked s.wide + x) 1000000000000000) (document_fits s)
     where
       both : (u v g : Bool) → ((true && true) && ((true && u) && (v && (true && g)))) ≡ ((u && v) && g)
       both true true g = refl
@@ -76,7 +76,7 @@ module _ (l : Limits) (s : State) (f : Firm) (k q : ℕ) (good : Good (limits_of
 
   pub tested : (n x : ℕ) → bill_fits (limits_of l) n x s ≡ true → Room n x
   tested n x fit =
-      let u = and_parts (room (limits_of l) n x s) (in_time s) fit in
+      let u = and_parts (room (limits_of l) n x s) (document_fits s) fit in
       let v = and_parts (leb (count_of Entries s.narrow + n) l.entries) (leb (total_of Booked s.wide + x) 1000000000000000) u.0 in
       (leb-true _ _ v.0, leb-true _ _ v.1, ltb-true _ _ u.1)
 

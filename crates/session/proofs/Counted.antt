@@ -30,13 +30,13 @@ use Rattle.records.specs.declared.account.Account.TheVariants.{Losses}
 use Rattle.records.specs.declared.entry.Entry.{Entry}
 use Rattle.records.specs.declared.lot.Lot.{Lot}
 use Rattle.records.specs.declared.stock.Stock.{Stock}
-use Rattle.rules.specs.Checks.{in_time, enters as entering}
-use Rattle.rules.specs.Counting.{before, document_more, agreed, written_off, lost, found_lot, placed, found, settled}
+use Rattle.rules.specs.Checks.{document_fits, enters as entering}
+use Rattle.rules.specs.Counting.{before, agreed, written_off, lost, found_lot, placed, found, settled}
 use Rattle.rules.specs.Counting as counting
 use Rattle.rules.specs.Entering.{entered}
 use Rattle.rules.specs.Going.{summed_out, issued, goods_fit}
 use Rattle.rules.specs.Outcome.{outcome, refuse}
-use Rattle.rules.specs.Totals.{raised, lowered}
+use Rattle.rules.specs.Totals.{raised, lowered, document_more}
 use Rattle.store.specs.Laws.{with_lots, with_entries, with_total, with_stocks, with_balances, stock_with, stock_without}
 use Rattle.store.specs.Steps.{After, after, lot_placed, add_lot, lot_counted, count_in, counted_out}
 use Rattle.store.specs.View.{Kept, Stands}
@@ -115,16 +115,16 @@ module _ (l : Limits) (s : State) (f : Firm) (i q : ℕ) (can : ℕ → Bool) (c
       unfolding changed
       agreed_is = pick_true (leb n q) _ _ (le-leb n q (omega arith)) ∙ pick_true (eqb n q) agreed_firm _ (eq-eqb n q (sym same))
 
-      agreed_fits : fits l (changed f c) ≡ in_time s
+      agreed_fits : fits l (changed f c) ≡ document_fits s
       agreed_fits =
           let fit = reached_parts l f r in
           ap (fits l) agreed_is
-          ∙ fits_by l agreed_firm true true true true true true (in_time s) fit.orders fit.lots fit.parts
+          ∙ fits_by l agreed_firm true true true true true true (document_fits s) fit.orders fit.lots fit.parts
           (ap (λ (es : List ledger.Entry). leb (length es) l.entries) (append-nil f.entries) ∙ fit.entries)
           (ap (λ (es : List ledger.Entry). leb (sum_of es) 1000000000000000) (append-nil f.entries) ∙ fit.sum) fit.worth
           (ap (λ (k : ℕ). leb (suc k) 1099511627776) (sym documents_are))
 
-      agreed_means : in_time s ≡ true → Means (limits_of l) (document_more s) (changed f c)
+      agreed_means : document_fits s ≡ true → Means (limits_of l) (document_more s) (changed f c)
       agreed_means time =
           subst (Means (limits_of l) (document_more s)) (sym agreed_is) (record {
             kept = with_total Documents (min (2 ^ 64 - 1) (m.totals Documents + 1)) m;
@@ -144,7 +144,7 @@ module _ (l : Limits) (s : State) (f : Firm) (i q : ℕ) (can : ℕ → Bool) (c
 
       agreed_done : Done l s f c (agreed b s)
       agreed_done =
-          cond_both (in_time s) (outcome (before b) (document_more s)) (refuse 9 0 s) (Done l s f c)
+          cond_both (document_fits s) (outcome (before b) (document_more s)) (refuse 9 0 s) (Done l s f c)
           (λ time. goes l s f c _ _ (turned_not l f c g by_0 (agreed_fits ∙ time)) says (agreed_means time))
           (λ late. refuses l s f c 9 0 (turned_full l f c g by_0 (agreed_fits ∙ late)) (omega arith) at_9 h)
 
@@ -162,23 +162,23 @@ module _ (l : Limits) (s : State) (f : Firm) (i q : ℕ) (can : ℕ → Bool) (c
           pick_true (leb n q) _ _ (le-leb n q (omega arith)) ∙ pick_false (eqb n q) (next f f.lots f.orders f.recipes []) _ (ne_eqb n q (λ e. omega arith))
           ∙ ap found_firm (sym documents_are)
 
-      found_fits : fits l (changed f c) ≡ (ltb (length f.lots) l.lots && in_time s)
+      found_fits : fits l (changed f c) ≡ (ltb (length f.lots) l.lots && document_fits s)
       found_fits =
           let fit = reached_parts l f r in
           ap (fits l) found_is
-          ∙ fits_by l (found_firm d) true (ltb (length f.lots) l.lots) true true true true (in_time s) fit.orders
+          ∙ fits_by l (found_firm d) true (ltb (length f.lots) l.lots) true true true true (document_fits s) fit.orders
           (ap (λ (k : ℕ). leb k l.lots) (length_push f.lots (lot_of lot) ∙ omega arith)) fit.parts
           (ap (λ (es : List ledger.Entry). leb (length es) l.entries) (append-nil f.entries) ∙ fit.entries)
           (ap (λ (es : List ledger.Entry). leb (sum_of es) 1000000000000000) (append-nil f.entries) ∙ fit.sum)
           (le-leb _ _ (omega (arith, worth_push f.lots (lot_of lot), leb-true _ _ fit.worth)))
           (ap (λ (k : ℕ). leb (suc k) 1099511627776) (sym documents_are))
-          ∙ both (ltb (length f.lots) l.lots) (in_time s)
+          ∙ both (ltb (length f.lots) l.lots) (document_fits s)
         where
           both : (u v : Bool) → ((true && u) && ((true && true) && (true && (true && v)))) ≡ (u && v)
           both true v = refl
           both false v = refl
 
-      module _ (time : in_time s ≡ true) (less : length f.lots < l.lots) where
+      module _ (time : document_fits s ≡ true) (less : length f.lots < l.lots) where
         early : d < 1099511627776
         early = ltb-true _ _ time
 
@@ -233,7 +233,7 @@ module _ (l : Limits) (s : State) (f : Firm) (i q : ℕ) (can : ℕ → Bool) (c
             (goes l s f c _ _ (turned_not l f c g by_0 (found_fits ∙ ap₂ ◌&&◌ (lt-ltb _ _ less) time)) says found_means)
 
       -- no lot more fits
-      full_done : in_time s ≡ true → l.lots ≤ length f.lots → Done l s f c (placed (limits_of l) b (add_lot (limits_of l) lot s))
+      full_done : document_fits s ≡ true → l.lots ≤ length f.lots → Done l s f c (placed (limits_of l) b (add_lot (limits_of l) lot s))
       full_done time full =
           let all : m.lots_used ≡ l.lots = omega (arith, h.used, h.stands.lots.free) in
           subst (λ (y : After ℕ State). Done l s f c (placed (limits_of l) b y)) (sym (refuses_lot (limits_of l) s m lot good h.stands known all))
@@ -241,7 +241,7 @@ module _ (l : Limits) (s : State) (f : Firm) (i q : ℕ) (can : ℕ → Bool) (c
 
       found_done : Done l s f c (found (limits_of l) i (q - n) b s)
       found_done =
-          cond_both (in_time s) (placed (limits_of l) b (add_lot (limits_of l) lot s)) (refuse 9 0 s) (Done l s f c)
+          cond_both (document_fits s) (placed (limits_of l) b (add_lot (limits_of l) lot s)) (refuse 9 0 s) (Done l s f c)
           (λ time. elim (cases_lt (length f.lots) l.lots) [ inl less ↦ placed_done time less | inr full ↦ full_done time full ])
           (λ late. refuses l s f c 9 0 (turned_full l f c g by_0 (found_fits ∙ ap (λ (y : Bool). ltb (length f.lots) l.lots && y) late ∙ and_none (ltb (length f.lots) l.lots))) (omega arith) at_9 h)
         where
@@ -286,7 +286,7 @@ module _ (l : Limits) (s : State) (f : Firm) (i q : ℕ) (can : ℕ → Bool) (c
       lost_fits =
           let fit = reached_parts l f r in
           ap (fits l) lost_is
-          ∙ fits_by l (lost_firm d) true true true (leb (count_of Entries s.narrow + cond (eqb x 0) 0 1) l.entries) (leb (total_of Booked s.wide + x) 1000000000000000) true (in_time s)
+          ∙ fits_by l (lost_firm d) true true true (leb (count_of Entries s.narrow + cond (eqb x 0) 0 1) l.entries) (leb (total_of Booked s.wide + x) 1000000000000000) true (document_fits s)
           fit.orders
           (le-leb _ _ (omega (arith, take_few f.lots i p, leb-true _ _ fit.lots)))
           fit.parts
@@ -294,7 +294,7 @@ module _ (l : Limits) (s : State) (f : Firm) (i q : ℕ) (can : ℕ → Bool) (c
           (ap (λ (k : ℕ). leb k 1000000000000000) (sum_entry f.entries 8 0 x d ∙ ap (λ (k : ℕ). k + x) (sym (h.stands.frame.totals Booked ∙ h.booked))))
           (le-leb _ _ (omega (arith, (take_keeps f.lots i p).0, leb-true _ _ fit.worth)))
           (ap (λ (k : ℕ). leb (suc k) 1099511627776) (sym documents_are))
-          ∙ both (leb (count_of Entries s.narrow + cond (eqb x 0) 0 1) l.entries) (leb (total_of Booked s.wide + x) 1000000000000000) (in_time s)
+          ∙ both (leb (count_of Entries s.narrow + cond (eqb x 0) 0 1) l.entries) (leb (total_of Booked s.wide + x) 1000000000000000) (document_fits s)
         where
           both : (u v y : Bool) → ((true && true) && ((true && u) && (v && (true && y)))) ≡ ((u && v) && y)
           both true true y = refl
@@ -307,7 +307,7 @@ module _ (l : Limits) (s : State) (f : Firm) (i q : ℕ) (can : ℕ → Bool) (c
 
         tested : tests
         tested =
-            let u = and_parts (entering (limits_of l) x s) (in_time s) fit in
+            let u = and_parts (entering (limits_of l) x s) (document_fits s) fit in
             let v = and_parts (leb (count_of Entries s.narrow + cond (eqb x 0) 0 1) l.entries) (leb (total_of Booked s.wide + x) 1000000000000000) u.0 in
             (leb-true _ _ v.0, leb-true _ _ v.1, ltb-true _ _ u.1)
 

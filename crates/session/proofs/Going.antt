@@ -30,7 +30,7 @@ use Rattle.records.specs.State.{State, state}
 use Rattle.records.specs.declared.account.Account.TheVariants.{CostOfSales}
 use Rattle.records.specs.declared.entry.Entry.{Entry}
 use Rattle.records.specs.declared.order.Order.{Order}
-use Rattle.rules.specs.Checks.{in_time, enters as entering}
+use Rattle.rules.specs.Checks.{document_fits, enters as entering}
 use Rattle.rules.specs.Entering.{entered}
 use Rattle.rules.specs.Going.{gone, summed_out, issued, goods_fit, let_go}
 use Rattle.rules.specs.Going as going
@@ -193,7 +193,7 @@ module _ (l : Limits) (s : State) (f : Firm) (k q : ℕ) (can : ℕ → Bool) (c
     fits_are =
         let fit = reached_parts l f r in
         ap (fits l) changed_is
-        ∙ fits_by l (target (order_of o) d) true true true (leb (count_of Entries s.narrow + cond (eqb x 0) 0 1) l.entries) (leb (total_of Booked s.wide + x) 1000000000000000) true (in_time s)
+        ∙ fits_by l (target (order_of o) d) true true true (leb (count_of Entries s.narrow + cond (eqb x 0) 0 1) l.entries) (leb (total_of Booked s.wide + x) 1000000000000000) true (document_fits s)
         (ap (λ (n : ℕ). leb n l.orders) (length-set f.orders k (moved_by (order_of o) q)) ∙ fit.orders)
         (le-leb _ _ (omega (arith, take_few f.lots o.item q, leb-true _ _ fit.lots)))
         fit.parts
@@ -201,7 +201,7 @@ module _ (l : Limits) (s : State) (f : Firm) (k q : ℕ) (can : ℕ → Bool) (c
         (ap (λ (n : ℕ). leb n 1000000000000000) (sum_entry f.entries 6 0 x d ∙ ap (λ (n : ℕ). n + x) (sym (h.stands.frame.totals Booked ∙ h.booked))))
         (le-leb _ _ (omega (arith, (take_keeps f.lots o.item q).0, leb-true _ _ fit.worth)))
         (ap (λ (n : ℕ). leb (suc n) 1099511627776) (sym documents_are))
-        ∙ both (leb (count_of Entries s.narrow + cond (eqb x 0) 0 1) l.entries) (leb (total_of Booked s.wide + x) 1000000000000000) (in_time s)
+        ∙ both (leb (count_of Entries s.narrow + cond (eqb x 0) 0 1) l.entries) (leb (total_of Booked s.wide + x) 1000000000000000) (document_fits s)
       where
         both : (u v g : Bool) → ((true && true) && ((true && u) && (v && (true && g)))) ≡ ((u && v) && g)
         both true true g = refl
@@ -215,7 +215,7 @@ module _ (l : Limits) (s : State) (f : Firm) (k q : ℕ) (can : ℕ → Bool) (c
 
       tested : tests
       tested =
-          let u = and_parts (entering (limits_of l) x s) (in_time s) fit in
+          let u = and_parts (entering (limits_of l) x s) (document_fits s) fit in
           let v = and_parts (leb (count_of Entries s.narrow + cond (eqb x 0) 0 1) l.entries) (leb (total_of Booked s.wide + x) 1000000000000000) u.0 in
           (leb-true _ _ v.0, leb-true _ _ v.1, ltb-true _ _ u.1)
 

@@ -6,14 +6,14 @@ use Rattle.layout.specs.declared.head.Total.TheVariants.{Booked}
 use Rattle.layout.specs.declared.limits.Limits.{Limits}
 use Rattle.memory.specs.Books.{count_of, total_of, stock_of}
 use Rattle.records.specs.State.{State}
-use Rattle.rules.specs.Checks.{in_time, room, enters}
+use Rattle.rules.specs.Checks.{document_fits, room, enters}
 use Rattle.rules.specs.Going.{goods_fit}
 use Rattle.taking.specs.Takes.{cost_of}
 use Rattle.taking.specs.declared.wants.Want.{Want}
 
 -- what goes at the cost x is within the limits
 abbrev pub goes_fits : Limits → ℕ → State → Bool
-goes_fits l x s = enters l x s && in_time s
+goes_fits l x s = enters l x s && document_fits s
 
 module _ (l : Limits) (w : Want) (x : ℕ) (s : State) where
   abbrev all : ℕ
@@ -34,4 +34,4 @@ module _ (l : Limits) (w : Want) (x : ℕ) (s : State) where
 
   pub goods_are : cost_of l w s ≡ x → x ≤ all → goods_fit l w s ≡ goes_fits l x s
   goods_are is le =
-      ap (λ (b : Bool). b && in_time s) (ap (λ (n : ℕ). room l 1 all s || enters l n s) is ∙ implied (room l 1 all s) (enters l x s) (whole le))
+      ap (λ (b : Bool). b && document_fits s) (ap (λ (n : ℕ). room l 1 all s || enters l n s) is ∙ implied (room l 1 all s) (enters l x s) (whole le))

@@ -26,8 +26,9 @@ use Rattle.memory.specs.Books.{total_of, lot_record, recipe_of}
 use Rattle.questions.specs.Listing.{lot_of}
 use Rattle.records.specs.State.{State, state}
 use Rattle.records.specs.declared.lot.Lot.{Lot}
-use Rattle.rules.specs.Checks.{in_time}
-use Rattle.rules.specs.Making.{in_all, lies, all_lie, takes_lot, empties, frees, has_place, makes_fits, stored_new, lot_kept, one_document, cost_all, new_lot, made_of, item_wants}
+use Rattle.rules.specs.Checks.{document_fits}
+use Rattle.rules.specs.Totals.{document_more}
+use Rattle.rules.specs.Making.{in_all, lies, all_lie, takes_lot, empties, frees, has_place, makes_fits, stored_new, lot_kept, cost_all, new_lot, made_of, item_wants}
 use Rattle.rules.specs.Making as making
 use Rattle.rules.specs.Outcome.{refuse}
 use Rattle.store.specs.Laws.{with_lots, with_total, with_stocks, stock_with}
@@ -222,7 +223,7 @@ module _ (l : Limits) (s : State) (f : Firm) (i q : ℕ) (can : ℕ → Bool) (c
     fits_are =
         let fit = reached_parts l f r in
         ap (fits l) changed_is
-        ∙ fits_by l (target t d f.entries) true (has_place (limits_of l) ws s) true true true true (in_time s)
+        ∙ fits_by l (target t d f.entries) true (has_place (limits_of l) ws s) true true true true (document_fits s)
         fit.orders
         (ap (λ (n : ℕ). leb n l.lots) (length_push t.left (lot_of lot)) ∙ sym place_is)
         fit.parts
@@ -230,7 +231,7 @@ module _ (l : Limits) (s : State) (f : Firm) (i q : ℕ) (can : ℕ → Bool) (c
         fit.sum
         (ap (λ (n : ℕ). leb n 1000000000000) (worth_push t.left (lot_of lot) ∙ cents) ∙ fit.worth)
         (ap (λ (n : ℕ). leb (suc n) 1099511627776) (sym documents_are))
-        ∙ both (has_place (limits_of l) ws s) (in_time s)
+        ∙ both (has_place (limits_of l) ws s) (document_fits s)
       where
         both : (b g : Bool) → ((true && b) && ((true && true) && (true && (true && g)))) ≡ (b && g)
         both true g = refl
@@ -245,7 +246,7 @@ module _ (l : Limits) (s : State) (f : Firm) (i q : ℕ) (can : ℕ → Bool) (c
       tests = (length t.left + 1 ≤ l.lots) × (d < 1099511627776)
 
       tested : tests
-      tested = let u = and_parts (has_place (limits_of l) ws s) (in_time s) fit in (leb-true _ _ (sym place_is ∙ u.0), ltb-true _ _ u.1)
+      tested = let u = and_parts (has_place (limits_of l) ws s) (document_fits s) fit in (leb-true _ _ (sym place_is ∙ u.0), ltb-true _ _ u.1)
 
       left_is : (j : ℕ) → on_hand t.left j + total ws j ≡ on_hand f.lots j
       left_is j = lack_lie f.lots ws (enough lie) j
@@ -318,7 +319,7 @@ module _ (l : Limits) (s : State) (f : Firm) (i q : ℕ) (can : ℕ → Bool) (c
           ∙ ap (λ (ls : List stock.Lot). of_item t.left j ++ ls) (sym (pick_false (eqb i j) (lot_of lot ∷ []) [] (ne_eqb _ _ (λ w. z (sym w)))))
           ∙ sym (of_item_push t.left (lot_of lot) j)
 
-      document_means : Means (limits_of l) (one_document s₃) (target t d f.entries)
+      document_means : Means (limits_of l) (document_more s₃) (target t d f.entries)
       document_means =
           record {
             kept = k₅;
@@ -339,9 +340,9 @@ module _ (l : Limits) (s : State) (f : Firm) (i q : ℕ) (can : ℕ → Bool) (c
       stored_means : Means (limits_of l) (stored_new (limits_of l) (new_lot i q (cost_all taking) d) s₁) (changed f c)
       unfolding stored_new
       stored_means =
-          subst (Means (limits_of l) (one_document (lot_kept (limits_of l) (add_lot (limits_of l) (new_lot i q (cost_all taking) d) s₁)))) (sym changed_is)
-          (subst (λ (x : ℕ). Means (limits_of l) (one_document (lot_kept (limits_of l) (add_lot (limits_of l) (new_lot i q x d) s₁))) (target t d f.entries)) (sym cost_is)
-          (subst (λ (a : After ℕ State). Means (limits_of l) (one_document (lot_kept (limits_of l) a)) (target t d f.entries)) (sym adds.2) document_means))
+          subst (Means (limits_of l) (document_more (lot_kept (limits_of l) (add_lot (limits_of l) (new_lot i q (cost_all taking) d) s₁)))) (sym changed_is)
+          (subst (λ (x : ℕ). Means (limits_of l) (document_more (lot_kept (limits_of l) (add_lot (limits_of l) (new_lot i q x d) s₁))) (target t d f.entries)) (sym cost_is)
+          (subst (λ (a : After ℕ State). Means (limits_of l) (document_more (lot_kept (limits_of l) a)) (target t d f.entries)) (sym adds.2) document_means))
 
       says : lots taking.parts ≡ told f c
       unfolding told

@@ -20,7 +20,7 @@ use Rattle.layout.specs.declared.head.Total.TheVariants.{Documents}
 use Rattle.memory.specs.Books.{total_of}
 use Rattle.records.specs.State.{State, state}
 use Rattle.records.specs.declared.order.Order.{Order}
-use Rattle.rules.specs.Checks.{in_time}
+use Rattle.rules.specs.Checks.{document_fits}
 use Rattle.rules.specs.Ordering.{new_order, order_fields, added, ordered}
 use Rattle.rules.specs.Outcome.{refuse}
 use Rattle.rules.specs.Totals.{raised}
@@ -88,23 +88,23 @@ module _ (l : Limits) (s : State) (f : Firm) (b : Bool) (i q p : ℕ) (good : Go
   orders_are : length h.kept.all_orders ≡ length f.orders
   orders_are = sym (length-map h.kept.all_orders order_of) ∙ ap length h.orders
 
-  fits_is : fits l (changed f c) ≡ (ltb (length f.orders) l.orders && in_time s)
+  fits_is : fits l (changed f c) ≡ (ltb (length f.orders) l.orders && document_fits s)
   fits_is =
       let fit = reached_parts l f r in
       ap (fits l) changed_is
-      ∙ fits_by l (target b) (ltb (length f.orders) l.orders) true true true true true (in_time s)
+      ∙ fits_by l (target b) (ltb (length f.orders) l.orders) true true true true true (document_fits s)
       (ap (λ (n : ℕ). leb n l.orders) (length_push f.orders (order_of x) ∙ omega arith))
       fit.lots fit.parts (ap (λ (es : List ledger.Entry). leb (length es) l.entries) (append-nil f.entries) ∙ fit.entries)
       (ap (λ (es : List ledger.Entry). leb (sum_of es) 1000000000000000) (append-nil f.entries) ∙ fit.sum) fit.worth
       (ap (λ (n : ℕ). leb (suc n) 1099511627776) (sym documents_are))
-      ∙ both (ltb (length f.orders) l.orders) (in_time s)
+      ∙ both (ltb (length f.orders) l.orders) (document_fits s)
     where
       both : (a b : Bool) → ((a && true) && ((true && true) && (true && (true && b)))) ≡ (a && b)
       both true b = refl
       both false b = refl
 
   -- IT IS DONE
-  module _ (g : fields ≡ true) (time : in_time s ≡ true) (less : length f.orders < l.orders) where
+  module _ (g : fields ≡ true) (time : document_fits s ≡ true) (less : length f.orders < l.orders) where
     early : f.documents < 1099511627776
     early = omega (arith, ltb-true _ _ time, documents_are)
 
@@ -154,7 +154,7 @@ module _ (l : Limits) (s : State) (f : Firm) (b : Bool) (i q p : ℕ) (good : Go
         (goes l s f c _ _ (turned_not l f c (good_is ∙ g) none_known (fits_is ∙ ap₂ ◌&&◌ (lt-ltb _ _ less) time)) says placed_means)
 
   -- NO ORDER MORE FITS
-  full_done : fields ≡ true → in_time s ≡ true → l.orders ≤ length f.orders → Done l s f c (added s.wide (add_order (limits_of l) x s.narrow))
+  full_done : fields ≡ true → document_fits s ≡ true → l.orders ≤ length f.orders → Done l s f c (added s.wide (add_order (limits_of l) x s.narrow))
   full_done g time more =
       let known = ltb-true i l.items (and_parts (ltb i l.items) (some_pieces q && leb p 1000000) g).0 in
       let full : length h.kept.all_orders ≡ l.orders = omega (arith, orders_are, h.stands.orders.few) in
@@ -163,8 +163,8 @@ module _ (l : Limits) (s : State) (f : Firm) (b : Bool) (i q p : ℕ) (good : Go
 
   pub ordered_done : Done l s f c (ordered (limits_of l) b i q p s)
   ordered_done =
-      cond_both fields (cond (in_time s) (added s.wide (add_order (limits_of l) x s.narrow)) (refuse 9 0 s)) (refuse 2 0 s) (Done l s f c)
-      (λ g. cond_both (in_time s) (added s.wide (add_order (limits_of l) x s.narrow)) (refuse 9 0 s) (Done l s f c)
+      cond_both fields (cond (document_fits s) (added s.wide (add_order (limits_of l) x s.narrow)) (refuse 9 0 s)) (refuse 2 0 s) (Done l s f c)
+      (λ g. cond_both (document_fits s) (added s.wide (add_order (limits_of l) x s.narrow)) (refuse 9 0 s) (Done l s f c)
       (λ time. elim (cases_lt (length f.orders) l.orders) [ inl less ↦ placed_done g time less | inr more ↦ full_done g time more ])
       (λ late. refuses l s f c 9 0 (turned_full l f c (good_is ∙ g) none_known (fits_is ∙ ap (λ (b : Bool). ltb (length f.orders) l.orders && b) late ∙ and_none (ltb (length f.orders) l.orders))) (omega arith) at_9 h))
       (λ bad. refuses l s f c 2 0 (turned_bad l f c (good_is ∙ bad)) (omega arith) at_2 h)

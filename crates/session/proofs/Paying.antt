@@ -23,11 +23,11 @@ use Rattle.questions.specs.Entries.{entry_of}
 use Rattle.records.specs.State.{State, state}
 use Rattle.records.specs.declared.balance.Balance.{Balance}
 use Rattle.records.specs.declared.entry.Entry.{Entry}
-use Rattle.rules.specs.Checks.{owed, in_time, enters as entering}
+use Rattle.rules.specs.Checks.{owed, document_fits, enters as entering}
 use Rattle.rules.specs.Entering.{entered}
 use Rattle.rules.specs.Outcome.{refuse, outcome}
-use Rattle.rules.specs.Paying.{summed_paid, paid, pays_fits, pays, pays_out, pays_in}
-use Rattle.rules.specs.Totals.{raised}
+use Rattle.rules.specs.Paying.{paid, pays_fits, pays, pays_out, pays_in}
+use Rattle.rules.specs.Totals.{raised, booked}
 use Rattle.store.specs.Laws.{with_entries, with_total, with_balances}
 use Rattle.store.specs.View.{Kept}
 use Rattle.session.specs.Means.{Means, account_sums, limits_of}
@@ -63,13 +63,13 @@ module _ (l : Limits) (s : State) (f : Firm) (c : Call) (a b x : ℕ) (left_know
   fits_are =
       let fit = reached_parts l f r in
       ap (fits l) changed_is
-      ∙ fits_by l (target d) true true true (leb (count_of Entries s.narrow + cond (eqb x 0) 0 1) l.entries) (leb (total_of Booked s.wide + x) 1000000000000000) true (in_time s)
+      ∙ fits_by l (target d) true true true (leb (count_of Entries s.narrow + cond (eqb x 0) 0 1) l.entries) (leb (total_of Booked s.wide + x) 1000000000000000) true (document_fits s)
       fit.orders fit.lots fit.parts
       (ap (λ (n : ℕ). leb n l.entries) (length_entry f.entries a b x d ∙ ap (λ (n : ℕ). n + cond (eqb x 0) 0 1) (sym (h.stands.entries.count ∙ entries_are))))
       (ap (λ (n : ℕ). leb n 1000000000000000) (sum_entry f.entries a b x d ∙ ap (λ (n : ℕ). n + x) (sym (h.stands.frame.totals Booked ∙ h.booked))))
       fit.worth
       (ap (λ (n : ℕ). leb (suc n) 1099511627776) (sym documents_are))
-      ∙ both (leb (count_of Entries s.narrow + cond (eqb x 0) 0 1) l.entries) (leb (total_of Booked s.wide + x) 1000000000000000) (in_time s)
+      ∙ both (leb (count_of Entries s.narrow + cond (eqb x 0) 0 1) l.entries) (leb (total_of Booked s.wide + x) 1000000000000000) (document_fits s)
     where
       both : (u v g : Bool) → ((true && true) && ((true && u) && (v && (true && g)))) ≡ ((u && v) && g)
       both true true g = refl
@@ -83,7 +83,7 @@ module _ (l : Limits) (s : State) (f : Firm) (c : Call) (a b x : ℕ) (left_know
 
     tested : tests
     tested =
-        let u = and_parts (entering (limits_of l) x s) (in_time s) fit in
+        let u = and_parts (entering (limits_of l) x s) (document_fits s) fit in
         let v = and_parts (leb (count_of Entries s.narrow + cond (eqb x 0) 0 1) l.entries) (leb (total_of Booked s.wide + x) 1000000000000000) u.0 in
         (leb-true _ _ v.0, leb-true _ _ v.1, ltb-true _ _ u.1)
 
@@ -102,7 +102,7 @@ module _ (l : Limits) (s : State) (f : Firm) (c : Call) (a b x : ℕ) (left_know
     paid_means : Means (limits_of l) (paid (limits_of l) a b x d s) (changed f c)
     unfolding paid
     paid_means =
-        subst (Means (limits_of l) (summed_paid x s₁)) (sym changed_is) (record {
+        subst (Means (limits_of l) (booked x s₁)) (sym changed_is) (record {
           kept = k₃;
           stands = raised_stands (limits_of l) s₂ k₂ Documents 1 good (raised_stands (limits_of l) s₁ k₁ Booked x good enters_it.stands);
           documents = omega (arith, tested.2, h.documents, documents_are);

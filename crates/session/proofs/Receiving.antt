@@ -30,7 +30,7 @@ use Rattle.records.specs.State.{State, state}
 use Rattle.records.specs.declared.entry.Entry.{Entry}
 use Rattle.records.specs.declared.lot.Lot.{Lot}
 use Rattle.records.specs.declared.order.Order.{Order}
-use Rattle.rules.specs.Checks.{in_time, enters as entering, stores}
+use Rattle.rules.specs.Checks.{document_fits, enters as entering, worth_fits}
 use Rattle.rules.specs.Entering.{entered}
 use Rattle.rules.specs.Outcome.{refuse}
 use Rattle.rules.specs.Receiving.{moved_more, with_order, summed, received, comes_fits, new_lot, placed, comes}
@@ -155,7 +155,7 @@ module _ (l : Limits) (s : State) (f : Firm) (k q : ℕ) (good : Good (limits_of
     fits_are b space =
         let fit = reached_parts l f r in
         ap (fits l) changed_is
-        ∙ fits_by l (target (order_of o) d) true b true (leb (count_of Entries s.narrow + cond (eqb x 0) 0 1) l.entries) (leb (total_of Booked s.wide + x) 1000000000000000) (stores x s) (in_time s)
+        ∙ fits_by l (target (order_of o) d) true b true (leb (count_of Entries s.narrow + cond (eqb x 0) 0 1) l.entries) (leb (total_of Booked s.wide + x) 1000000000000000) (worth_fits x s) (document_fits s)
         (ap (λ (n : ℕ). leb n l.orders) (length-set f.orders k (moved_by (order_of o) q)) ∙ fit.orders)
         (ap (λ (n : ℕ). leb n l.lots) (length_push f.lots (lot_of lot)) ∙ space)
         fit.parts
@@ -163,7 +163,7 @@ module _ (l : Limits) (s : State) (f : Firm) (k q : ℕ) (good : Good (limits_of
         (ap (λ (n : ℕ). leb n 1000000000000000) (sum_entry f.entries 0 1 x d ∙ ap (λ (n : ℕ). n + x) (sym (h.stands.frame.totals Booked ∙ h.booked))))
         (ap (λ (n : ℕ). leb n 1000000000000) (worth_push f.lots (lot_of lot) ∙ ap (λ (n : ℕ). n + x) (sym (h.stands.frame.totals Worth ∙ h.worth))))
         (ap (λ (n : ℕ). leb (suc n) 1099511627776) (sym documents_are))
-        ∙ both b (leb (count_of Entries s.narrow + cond (eqb x 0) 0 1) l.entries) (leb (total_of Booked s.wide + x) 1000000000000000) (stores x s && in_time s)
+        ∙ both b (leb (count_of Entries s.narrow + cond (eqb x 0) 0 1) l.entries) (leb (total_of Booked s.wide + x) 1000000000000000) (worth_fits x s && document_fits s)
       where
         both : (b u v g : Bool) → ((true && b) && ((true && u) && (v && g))) ≡ (b && ((u && v) && g))
         both true true v g = refl
@@ -184,9 +184,9 @@ module _ (l : Limits) (s : State) (f : Firm) (k q : ℕ) (good : Good (limits_of
 
       tested : tests
       tested =
-          let u = and_parts (entering (limits_of l) x s) (stores x s && in_time s) fit in
+          let u = and_parts (entering (limits_of l) x s) (worth_fits x s && document_fits s) fit in
           let v = and_parts (leb (count_of Entries s.narrow + cond (eqb x 0) 0 1) l.entries) (leb (total_of Booked s.wide + x) 1000000000000000) u.0 in
-          let w = and_parts (stores x s) (in_time s) u.1 in
+          let w = and_parts (worth_fits x s) (document_fits s) u.1 in
           (leb-true _ _ v.0, leb-true _ _ v.1, leb-true _ _ w.0, ltb-true _ _ w.1)
 
       -- IT IS DONE: the lot

@@ -21,7 +21,7 @@ use Rattle.layout.specs.declared.head.Counter.TheVariants.{Parts}
 use Rattle.layout.specs.declared.head.Total.TheVariants.{Documents}
 use Rattle.memory.specs.Books.{count_of, total_of}
 use Rattle.records.specs.State.{State, state}
-use Rattle.rules.specs.Checks.{in_time}
+use Rattle.rules.specs.Checks.{document_fits}
 use Rattle.rules.specs.Outcome.{outcome, refuse}
 use Rattle.rules.specs.Recipes.{row_of, some_parts, recipe_fits, parts_added, recipe_kept}
 use Rattle.rules.specs.Recipes as recipes
@@ -83,13 +83,13 @@ module _ (l : Limits) (s : State) (f : Firm) (i : ℕ) (ps : List stock.Part) (c
   fits_are =
       let fit = reached_parts l f r in
       ap (fits l) changed_is
-      ∙ fits_by l target true true (leb (count_of Parts s.narrow + (1 + length ps)) l.parts) true true true (in_time s)
+      ∙ fits_by l target true true (leb (count_of Parts s.narrow + (1 + length ps)) l.parts) true true true (document_fits s)
       fit.orders fit.lots
       (ap (λ (n : ℕ). leb n l.parts) (omega (arith, recipe_parts_push f.recipes made, h.recipes.rows, h.stands.recipes.count)))
       (ap (λ (es : List ledger.Entry). leb (length es) l.entries) (append-nil f.entries) ∙ fit.entries)
       (ap (λ (es : List ledger.Entry). leb (sum_of es) 1000000000000000) (append-nil f.entries) ∙ fit.sum) fit.worth
       (ap (λ (n : ℕ). leb (suc n) 1099511627776) (sym documents_are))
-      ∙ both (leb (count_of Parts s.narrow + (1 + length ps)) l.parts) (in_time s)
+      ∙ both (leb (count_of Parts s.narrow + (1 + length ps)) l.parts) (document_fits s)
     where
       both : (a b : Bool) → ((true && true) && ((a && true) && (true && (true && b)))) ≡ (a && b)
       both true b = refl
@@ -99,7 +99,7 @@ module _ (l : Limits) (s : State) (f : Firm) (i : ℕ) (ps : List stock.Part) (c
   module _ (g : fields ≡ true) (fit : recipe_fits (limits_of l) (length ps) s ≡ true) where
     tested : (length m.all_parts + (1 + length ps) ≤ l.parts) × (d < 1099511627776)
     tested =
-        let u = and_parts (leb (count_of Parts s.narrow + (1 + length ps)) l.parts) (in_time s) fit in
+        let u = and_parts (leb (count_of Parts s.narrow + (1 + length ps)) l.parts) (document_fits s) fit in
         (omega (arith, leb-true _ _ u.0, h.stands.recipes.count), ltb-true _ _ u.1)
 
     known : i < l.items

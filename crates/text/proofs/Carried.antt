@@ -23,7 +23,7 @@ use Rattle.rules.specs.declared.billing.Bill.{Bill}
 use Rattle.rules.specs.Counting as counting
 use Rattle.rules.specs.Making as making
 use Rattle.rules.specs.Recipes.{some_parts, recipe_fits, recipe_kept}
-use Rattle.rules.specs.Checks.{one, owed, in_time}
+use Rattle.rules.specs.Checks.{one, owed, document_fits}
 use Rattle.rules.specs.Ordering.{new_order, order_fields, added, ordered}
 use Rattle.rules.specs.Outcome.{Outcome, outcome, refuse}
 use Rattle.rules.specs.Going.{gone, goods_fit, let_go}
@@ -110,8 +110,8 @@ module _ (l : Limits) (s : State) (z : Sized l s) where
 
   ordered_carried : (b : Bool) (i q p : ℕ) → ToldCarried (ordered l b i q p s)
   ordered_carried b i q p =
-      cond_both (order_fields l i q p) (cond (in_time s) (added s.wide (add_order l (new_order b i q p) s.narrow)) (refuse 9 0 s)) (refuse 2 0 s) ToldCarried
-      (λ _. cond_both (in_time s) (added s.wide (add_order l (new_order b i q p) s.narrow)) (refuse 9 0 s) ToldCarried
+      cond_both (order_fields l i q p) (cond (document_fits s) (added s.wide (add_order l (new_order b i q p) s.narrow)) (refuse 9 0 s)) (refuse 2 0 s) ToldCarried
+      (λ _. cond_both (document_fits s) (added s.wide (add_order l (new_order b i q p) s.narrow)) (refuse 9 0 s) ToldCarried
       (λ _. cond_both (ltb i l.items) (cond (ltb (count_of Orders s.narrow) l.orders) (steps.after (Ok (count_of Orders s.narrow)) (order_placed l (new_order b i q p) s.narrow)) (steps.after (Err Full) s.narrow)) (steps.after (Err NoSuchItem) s.narrow)
       (λ (a : After ℕ (List ℕ)). ToldCarried (added s.wide a))
       (λ _. cond_both (ltb (count_of Orders s.narrow) l.orders) (steps.after (Ok (count_of Orders s.narrow)) (order_placed l (new_order b i q p) s.narrow)) (steps.after (Err Full) s.narrow)
@@ -301,8 +301,8 @@ module _ (l : Limits) (s : State) (z : Sized l s) where
       (λ _. cond_both (ltb q a.pieces) losing (cond (eqb q a.pieces) agreeing finding) ToldCarried
       (λ _. cond_both (goods_fit l (want i (a.pieces - q)) s) _ (refuse 9 0 s) ToldCarried (λ _. before_carried) (λ _. refl))
       (λ _. cond_both (eqb q a.pieces) agreeing finding ToldCarried
-      (λ _. cond_both (in_time s) _ (refuse 9 0 s) ToldCarried (λ _. before_carried) (λ _. refl))
-      (λ _. cond_both (in_time s) (counting.placed l a lot_more) (refuse 9 0 s) ToldCarried (λ _. found_carried lot_more.left lot_more.came) (λ _. refl))))
+      (λ _. cond_both (document_fits s) _ (refuse 9 0 s) ToldCarried (λ _. before_carried) (λ _. refl))
+      (λ _. cond_both (document_fits s) (counting.placed l a lot_more) (refuse 9 0 s) ToldCarried (λ _. found_carried lot_more.left lot_more.came) (λ _. refl))))
       (λ _. refl))
       (λ _. refl)
     where
