@@ -1,12 +1,14 @@
 //! `bench compare`: every answer of the engine and of plain Rust against plain lists, over calls by chance.
 //! `bench time`: the engine against plain Rust, in one run, as a ratio.
 //! `bench text [LINES [RUNS]]`: the program `books` against `plain_books`, over one file of calls.
+//! `bench journal [EACH [TOGETHER [RUNS]]]`: the program `books` with a journal beside the program `sqlite3`.
 
 mod calls;
 mod compare;
 mod day;
 mod engine;
 mod generate;
+mod journal;
 mod model;
 mod text;
 mod time;
@@ -25,7 +27,12 @@ fn run(words: &[String]) -> Result<(), String> {
             Ok(())
         }
         Some("text") => text::text(number(words.get(1), 1_000_000)?, number(words.get(2), 5)?.max(1)),
-        _ => Err("usage: bench compare | time | text [LINES [RUNS]]".to_string()),
+        Some("journal") => {
+            let (each, together) = (number(words.get(1), 2_000)?, number(words.get(2), 100_000)?);
+            journal::journal(each, together, number(words.get(3), 3)?.max(1))
+        }
+        _ => Err("usage: bench compare | time | text [LINES [RUNS]] | journal [EACH [TOGETHER [RUNS]]]"
+            .to_string()),
     }
 }
 

@@ -10,7 +10,7 @@ use Rattle.command_line.specs.declared.failure.Failure.{Failure}
 use Rattle.command_line.specs.declared.failure.Failure.TheVariants.{Arguments, Word, End, File, Input, Output, Run, Journal}
 use Rattle.command_line.specs.declared.misuse.Misuse.{Misuse}
 use Rattle.command_line.specs.declared.trouble.Trouble.{Trouble}
-use Rattle.command_line.specs.declared.trouble.Trouble.TheVariants.{System, Locked, NoJournal, OtherLimits, Stopped, CallsToo}
+use Rattle.command_line.specs.declared.trouble.Trouble.TheVariants.{System, Locked, NoJournal, OtherLimits, Stopped, CallsToo, StreamClosed}
 use Rattle.command_line.specs.declared.misuse.Misuse.TheVariants.{NoSuchOption, SecondFile, SecondJournal, NotANumber, NumberMissing, JournalMissing, OutOfMemory}
 
 -- what is said of a word
@@ -31,6 +31,7 @@ trouble_text NoJournal = Some (codes "no journal: its first line names no limits
 trouble_text OtherLimits = Some (codes "its books have other limits than the options ask for: its first line names them")
 trouble_text (Stopped e) = Some (error_text e)
 trouble_text CallsToo = Some (codes "a report of a journal takes no calls")
+trouble_text StreamClosed = Some (codes "standard input, output or error is closed")
 
 -- the line behind the program's name, where it is known: an error of the system is not
 abbrev pub failure_text : Failure → Option (List ℕ)

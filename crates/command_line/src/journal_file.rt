@@ -3,9 +3,10 @@
 use crate::trouble::Trouble;
 use journal::{finished, limits_in, put_first_line};
 use layout::Limits;
-use std::fs::{File, OpenOptions};
+use std::fs::{File, OpenOptions, TryLockError};
 use std::io;
 use std::io::{Read, Write};
+use std::os::fd::AsRawFd;
 
 /// The file of a journal, which this program alone writes.
 #[derive(Drop)]
@@ -22,6 +23,23 @@ pub struct Opened {
     pub lines: Vec<u8>,
     pub limits: Limits,
     pub torn: usize,
+}
+
+// Whether a file is no standard stream: it is given the number of one that was closed, and would be written or read as that.
+fn apart(file: &File) -> Result<(), Trouble> {
+    if file.as_raw_fd() < 3 {
+        return Err(Trouble::StreamClosed);
+    }
+    Ok(())
+}
+
+// Takes the file for this program, which a lock by its name alone would leave to a program that knows it by another.
+fn take(file: &File) -> Result<(), Trouble> {
+    match file.try_lock() {
+        Ok(()) => Ok(()),
+        Err(TryLockError::WouldBlock) => Err(Trouble::Locked),
+        Err(TryLockError::Error(e)) => Err(Trouble::System(e)),
+    }
 }
 
 // The folder that a file lies in, by its name.
@@ -62,6 +80,8 @@ impl Opened {
             .append(true)
             .create(true)
             .open(rt, name)?;
+        apart(&file)?;
+        take(&file)?;
         let mut text = Vec::new(rt.alloc());
         file.read_to_end(&mut text)?;
         let mut line = Vec::new(rt.alloc());
@@ -75,6 +95,8 @@ impl Opened {
     /// Opens the file of a journal that is only read, and has to be there.
     pub fn read(rt: &HostRuntime, name: &str) -> Result<Opened, Trouble> {
         let mut file = File::open(rt, name)?;
+        apart(&file)?;
+        take(&file)?;
         let mut text = Vec::new(rt.alloc());
         file.read_to_end(&mut text)?;
         Opened::from_text(file, text)
@@ -99,7 +121,7 @@ impl Opened {
 }
 
 impl JournalFile {
-    /// Cuts off what stands behind the finished lines.
+    /// Cuts off what stands behind the finished lines, and makes sure that these are on disk.
     pub fn cut(&self) -> io::Result<()> {
         self.file.set_len(self.length)?;
         self.file.sync_data()

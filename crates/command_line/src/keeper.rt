@@ -23,12 +23,10 @@ impl Keeper {
         })
     }
 
-    /// Books that start again from a journal, and go on where they were.
+    /// Books that start again from a journal, and go on where they were. Its lines are on disk then, also those that a crash left unsynced.
     pub fn restart(heap: Global, opened: Opened) -> Result<Keeper, Trouble> {
         let books = replay(heap, opened.limits, opened.lines.as_slice())?;
-        if opened.torn > 0 {
-            opened.file.cut()?;
-        }
+        opened.file.cut()?;
         Ok(Keeper {
             books,
             journal: Some(opened.file),

@@ -23,6 +23,8 @@ pub enum Trouble {
     Stopped(ReplayError),
     /// There are calls beside it, where it is only read.
     CallsToo,
+    /// Standard input, output or error is closed, so that its number would be the journal's.
+    StreamClosed,
 }
 
 impl From<io::Error> for Trouble {
@@ -66,6 +68,7 @@ impl fmt::Display for Trouble {
             ),
             Trouble::Stopped(e) => write!(f, "{e}"),
             Trouble::CallsToo => write!(f, "a report of a journal takes no calls"),
+            Trouble::StreamClosed => write!(f, "standard input, output or error is closed"),
         }
     }
 }
