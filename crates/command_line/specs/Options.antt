@@ -13,6 +13,10 @@ use Rattle.command_line.specs.declared.misuse.Misuse.TheVariants.{NoSuchOption, 
 use Rattle.command_line.specs.declared.request.Wanted.{Wanted}
 use Rattle.command_line.specs.declared.request.Wanted.TheVariants.{Number, Journal}
 
+-- the limits of new books where no option says otherwise
+abbrev pub usual_limits : Limits
+usual_limits = record { items = 32; orders = 64; lots = 128; parts = 32; entries = 256 }
+
 -- the option that names a limit, and the limit that a word names
 abbrev pub option_name : Limit → List ℕ
 option_name Items = codes "--items"

@@ -21,5 +21,5 @@ pub use failure::Failure;
 pub use limit::Limit;
 pub use misuse::Misuse;
 pub use program::Program;
-pub use request::{Request, USUAL, Wanted};
+pub use request::{Request, Wanted, usual_limits};
 pub use trouble::Trouble;

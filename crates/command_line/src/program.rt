@@ -6,7 +6,7 @@ use crate::asking::request;
 use crate::failure::Failure;
 use crate::keeper::Keeper;
 use crate::kept::Kept;
-use crate::request::{Request, USUAL};
+use crate::request::{Request, usual_limits};
 use crate::typing::answer_lines;
 use layout::Limits;
 use std::alloc::Global;
@@ -71,7 +71,7 @@ impl Program {
             journal,
             help,
             ..
-        } = request(rt, USUAL)?;
+        } = request(rt, usual_limits())?;
         if help {
             return self.help(rt).map_err(Failure::Output);
         }

@@ -1,7 +1,7 @@
 //! What the arguments ask for, word by word.
 
 ghost use Rattle.std.specs.Prelude.{◌≡◌};
-ghost use Rattle.command_line.specs.Options.{Took, number_to, nothing_asked, with_number, option_taken, with_file, with_journal, word_taken, ended, most};
+ghost use Rattle.command_line.specs.Options.{Took, usual_limits, number_to, nothing_asked, with_number, option_taken, with_file, with_journal, word_taken, ended, most};
 ghost use Rattle.command_line.specs.Requests.{asked};
 
 use crate::limit::Limit;
@@ -11,13 +11,17 @@ use std::alloc::Global;
 use words::value;
 
 /// The limits of new books where no option says otherwise.
-pub const USUAL: Limits = Limits {
-    items: 32,
-    orders: 64,
-    lots: 128,
-    parts: 32,
-    entries: 256,
-};
+pub fn usual_limits() -> Limits
+    ensures { result ≡ usual_limits }
+{
+    Limits {
+        items: 32,
+        orders: 64,
+        lots: 128,
+        parts: 32,
+        entries: 256,
+    }
+}
 
 /// What the next word is to say, as the option before it asks.
 #[derive(Clone, Copy, PartialEq, Eq, Debug)]

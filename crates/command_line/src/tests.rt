@@ -3,14 +3,14 @@
 use crate::failure::Failure;
 use crate::limit::Limit;
 use crate::misuse::Misuse;
-use crate::request::{Request, USUAL};
+use crate::request::{Request, usual_limits};
 use std::process::Abort;
 use std::test::Fail;
 use text::RunError;
 
 #[test]
 fn options_and_a_file(rt: HostRuntime) -> Result<(), Fail> {
-    let mut request = Request::new(USUAL);
+    let mut request = Request::new(usual_limits());
     for word in ["--items", "4", "day.calls", "--orders", "65536"] {
         assert!(rt; request.take(rt.alloc(), word).is_ok());
     }
