@@ -120,6 +120,35 @@ impl Shape {
         }
     }
 
+    /// Takes `cell`, the first of the row `from`, out of it, and puts it in front of the row `to`.
+    #[tactic(auto, unfolding(crate::specs::Area::removed, crate::specs::Area::inserted))]
+    #[inline(always)]
+    pub fn move_first(self, words: &mut [u32], from: u32, to: u32, cell: u32)
+        ensures { words.new ≡ inserted self to (header_of self to) cell (removed self from (header_of self from) cell words.old) }
+    {
+        let len = words.len();
+        let (front, to_front) = (self.header(from), self.header(to));
+        let (first, to_first) = (self.place_at(front), self.place_at(to_front));
+        let (tail, to_tail) = (self.tail_at(from), self.tail_at(to));
+        let link = self.place_at(cell);
+        if first >= len || to_first >= len || tail >= len || to_tail >= len || link >= len {
+            self.remove_after(words, from, front, cell);
+            self.insert_after(words, to, to_front, cell);
+            return;
+        }
+        let last = words[tail];
+        words[first] = words[link];
+        if last == cell {
+            words[tail] = front;
+        }
+        let to_last = words[to_tail];
+        words[link] = words[to_first];
+        words[to_first] = cell;
+        if to_last == to_front {
+            words[to_tail] = cell;
+        }
+    }
+
     /// Empties every row. The cells' links stay as they are: no cell is in a row then.
     pub fn empty_rows(self, words: &mut [u32])
         ensures { words.new ≡ emptied self.rows self 0 words.old }

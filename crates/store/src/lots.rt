@@ -31,8 +31,7 @@ fn move_out(memory: &mut Memory<'_>, item: u32, cell: u32)
 {
     let free = memory.limits.items;
     let rows = memory.limits.lot_rows();
-    rows.remove_after(memory.narrow, item, rows.header(item), cell);
-    rows.insert_after(memory.narrow, free, rows.header(free), cell);
+    rows.move_first(memory.narrow, item, free, cell);
 }
 
 #[tactic(auto, unfolding(crate::specs::Steps::lot_placed))]
