@@ -1,15 +1,15 @@
 -- Walking along lots while pieces are wanted: a turn, and its ends. Assumes nothing.
-use Rattle.std.proofs.Common.{◌≡◌, ℕ, zero, suc, ◌+◌, ◌-◌, ◌<◌, ◌≤◌, cond, eqb, leb, List, [], ◌∷◌, length, Some, None, Option, sym, refl, ap, ◌∙◌, subst, arith, length-append}
-use Rattle.std.proofs.lemmas.Bool.{eq-eqb, ne_eqb, cond-true, cond-false, cond_both, leb-true}
+use Rattle.std.proofs.Common.{◌≡◌, ℕ, zero, suc, ◌+◌, ◌-◌, ◌<◌, ◌≤◌, cond, eqb, leb, List, [], ◌∷◌, length, Some, None, Option, sym, refl, ap, ◌∙◌, arith, length-append}
+use Rattle.std.proofs.lemmas.Bool.{eq-eqb, ne_eqb, cond-true, cond-false, cond_both, leb-true, le-leb}
 use Rattle.layout.specs.declared.limits.Limits.{Limits}
-use Rattle.memory.specs.Books.{lot_record}
+use Rattle.memory.specs.Books.{lot_record, put_lot}
 use Rattle.questions.specs.Listing.{lot_of}
 use Rattle.store.specs.Steps.{sum}
-use Rattle.records.specs.State.{State}
+use Rattle.records.specs.State.{State, state}
 use Rattle.records.specs.declared.lot.Lot.{Lot}
-use Rattle.store.specs.Steps.{first_lot, lot_after}
-use Rattle.taking.specs.Parts.{part_of}
-use Rattle.taking.specs.Takes.{cost_on, Gave, gave, on_oldest, take_oldest, Taking, taking, behind, taken_on, most_lines, taken_each}
+use Rattle.store.specs.Steps.{first_lot, lot_after, lot_freed}
+use Rattle.taking.specs.Parts.{part_of, rest_of}
+use Rattle.taking.specs.Takes.{cost_on, Gave, gave, given, on_oldest, take_oldest, Taking, taking, behind, taken_on, most_lines, taken_each}
 use Rattle.taking.specs.declared.wants.Want.{Want}
 
 -- a part has no more pieces than are wanted
@@ -17,25 +17,34 @@ pub part_few : (x : Lot) (q : ℕ) → (part_of x q).pieces ≤ q
 unfolding part_of
 part_few x q = cond_both (leb x.pieces q) x _ (λ (p : Lot). p.pieces ≤ q) (λ e. leb-true _ _ e) (λ _. omega arith)
 
-pub gave_few : (l : Limits) (i q : ℕ) (s : State) (p : Lot) (t : State) → gave (Some p) t ≡ take_oldest l i q s → p.pieces ≤ q
+-- WHAT THE OLDEST LOT GIVES: nothing where there is none, itself where no more is wanted, or a part
+pub none_gave : (l : Limits) (i q : ℕ) (s : State) → first_lot l i s.narrow ≡ None → gave None s ≡ take_oldest l i q s
 unfolding take_oldest
-gave_few l i q s p t = by (first_lot l i s.narrow)
-  where
-    by : (o : Option ℕ) → gave (Some p) t ≡ on_oldest l i q s o → p.pieces ≤ q
-    by None e = let f = ap (λ (g : Gave). g.part) e in let z : ◌≡◌ {A = ℕ} 0 1 = cc in absurd (omega arith)
-    by (Some c) e =
-        let f = ap (λ (g : Gave). g.part) e in
-        let same : p ≡ part_of (lot_record l c s) q = cc in
-        subst (λ (y : Lot). y.pieces ≤ q) (sym same) (part_few (lot_record l c s) q)
+none_gave l i q s e = ap (on_oldest l i q s) (sym e)
 
--- where there is no lot, nothing changes
-pub gave_none : (l : Limits) (i q : ℕ) (s t : State) → gave None t ≡ take_oldest l i q s → t ≡ s
-unfolding take_oldest
-gave_none l i q s t = by (first_lot l i s.narrow)
-  where
-    by : (o : Option ℕ) → gave None t ≡ on_oldest l i q s o → t ≡ s
-    by None e = ap (λ (g : Gave). g.slices) e
-    by (Some c) e = let f = ap (λ (g : Gave). g.part) e in let z : ◌≡◌ {A = ℕ} 0 1 = cc in absurd (omega arith)
+pub whole_gave : (l : Limits) (i q c : ℕ) (s t : State) → first_lot l i s.narrow ≡ Some c → (lot_record l c s).pieces ≤ q →
+    t ≡ state s.wide (lot_freed l i c s.narrow) → gave (Some (lot_record l c s)) t ≡ take_oldest l i q s
+unfolding take_oldest given part_of
+whole_gave l i q c s t first le is =
+    let x : Lot = lot_record l c s in
+    let whole : part_of x q ≡ x = cond-true (leb x.pieces q) x _ (le-leb x.pieces q le) in
+    let freed : given l i c x x s ≡ t = cond-true (eqb x.pieces x.pieces) _ _ (eq-eqb x.pieces x.pieces refl) ∙ sym is in
+    sym (ap (on_oldest l i q s) first ∙ ap (λ (p : Lot). gave (Some p) (given l i c x p s)) whole ∙ ap (gave (Some x)) freed)
+
+pub part_gave : (l : Limits) (i q c : ℕ) (s t : State) → first_lot l i s.narrow ≡ Some c → q < (lot_record l c s).pieces →
+    t ≡ put_lot l c (rest_of (lot_record l c s) (part_of (lot_record l c s) q)) s → gave (Some (part_of (lot_record l c s) q)) t ≡ take_oldest l i q s
+unfolding take_oldest given
+part_gave l i q c s t first lt is =
+    let x : Lot = lot_record l c s in
+    let p : Lot = part_of x q in
+    let rest : given l i c x p s ≡ t = cond-false (eqb p.pieces x.pieces) _ _ (ne_eqb p.pieces x.pieces (λ e. omega (arith, part_few x q))) ∙ sym is in
+    sym (ap (on_oldest l i q s) first ∙ ap (gave (Some p)) rest)
+
+-- all that is wanted comes of a lot that has more
+pub part_all : (x : Lot) (q : ℕ) → q < x.pieces → q - (part_of x q).pieces ≡ 0
+unfolding part_of
+part_all x q lt =
+    cond_both (leb x.pieces q) x _ (λ (p : Lot). q - p.pieces ≡ 0) (λ e. omega (arith, leb-true _ _ e)) (λ _. omega arith)
 
 -- WHAT IT WOULD COST
 pub cost_enough : (k : ℕ) (l : Limits) (s : State) (o : Option ℕ) (q x : ℕ) → q ≡ 0 → cost_on k l s o q x ≡ x

@@ -5,7 +5,7 @@ ghost use Rattle.memory.specs.Lent.{words, Same};
 ghost use Rattle.questions.specs.Listing.{lot_of};
 ghost use Rattle.taking.specs.Takes.{most_lines, taken_each, take_all, cost_taken, take_counted, tally, nothing_taken, with_part, tallied, told};
 
-use crate::oldest::take_oldest;
+use crate::oldest::take_part;
 use crate::wants::{Taken, Want};
 use memory::Memory;
 use records::Lot;
@@ -42,15 +42,23 @@ fn take_each(memory: &mut Memory<'_>, wants: &[Want], answer: &mut [u8], before:
     'wants: for want in wants {
         let mut left = want.pieces;
         // A bound on turns, not an index: words that are no books might lead on and on.
-        for _line in taken.lines..most {
+        for line in taken.lines..most {
             if left == 0 {
                 continue 'wants;
             }
-            let Some(part) = take_oldest(memory, want.item, left) else {
+            let Some(cell) = store::first_lot(memory.view(), want.item) else {
                 continue 'wants;
             };
-            taken = put_part(answer, taken, part);
-            left -= u64::from(part.pieces);
+            taken.lines = line;
+            let lot = memory.view().lot(cell);
+            if u64::from(lot.pieces) > left {
+                let part = take_part(memory, cell, lot, left);
+                taken = put_part(answer, taken, part);
+                continue 'wants;
+            }
+            store::free_lot(memory, want.item, cell);
+            taken = put_part(answer, taken, lot);
+            left -= u64::from(lot.pieces);
         }
     }
     taken

@@ -11,5 +11,5 @@ invariant-wants l =
 abbrev pub invariant-loop-line : goal.invariant-loop-line
 invariant-loop-line l =
     Same l.fn.memory l.memory
-    × RowSoFar l.fn.memory.limits l.want.item l.want.pieces (words l.initial.memory) (tally l.initial.answer l.initial.taken) l._line l.left (words l.memory)
+    × RowSoFar l.fn.memory.limits l.want.item l.want.pieces (words l.initial.memory) (tally l.initial.answer l.initial.taken) l.line l.left (words l.memory)
     (tally l.answer l.taken)
