@@ -25,8 +25,18 @@ pub trait SplitRecord: Copy + Drop + Default {
     {
         match (words::row(wide, wide_at), words::row(narrow, narrow_at)) {
             (Some(wide_row), Some(narrow_row)) => Self::from_words(wide_row, narrow_row),
-            _ => Self::default(),
+            _ => Self::nothing(),
         }
+    }
+
+    // A function by itself, out of the way of the records that are there: in a loop, the compiler would make four zeros for each.
+    /// The record of nothing.
+    #[cold]
+    #[inline(never)]
+    final fn nothing() -> Self
+        ensures { result ≡ kind.nothing }
+    {
+        Self::default()
     }
 
     /// Writes the record to the rows at `wide_at` and `narrow_at`, if they are wholly there.
