@@ -21,6 +21,9 @@ use rules::Refused;
 use taking::Taken;
 use wire::{Call, Refusal};
 
+/// The words of the head that the limits stand in.
+const LIMITS: usize = 5;
+
 // That there is room for an answer is asked of six functions here, and of two in `questions`: it ties the limits to other bytes, so that a struct would have to lend both.
 fn say_lots(view: View<'_>, item: u64, out: &mut [u8]) -> usize
     requires { answer_need view.limits ≤ length out.old }
@@ -198,6 +201,10 @@ pub fn call(
     ensures does { called_of result (state wide.new narrow.new) answer_bytes.new ≡ called (call_of call.now) (state wide.old narrow.old) answer_bytes.old }
     ensures fits { Fits result answer_bytes.old }
 {
+    // Asked first: the limits are read then without asking again for each.
+    if narrow.len() < LIMITS {
+        return None;
+    }
     let limits = memory::limits_in(narrow);
     if !holds(limits, wide.len(), narrow.len(), answer_bytes.len()) {
         return None;
