@@ -41,7 +41,7 @@ fn take_each(memory: &mut Memory<'_>, wants: &[Want], answer: &mut [u8], before:
     let mut taken = before;
     'wants: for want in wants {
         let mut left = want.pieces;
-        // A bound on turns, not an index: words that are no books might lead on and on.
+        // A bound on turns, since words that are no books might lead on and on; as many lines are there, so that one number counts both.
         for line in taken.lines..most {
             if left == 0 {
                 continue 'wants;
