@@ -11,17 +11,30 @@ use text::RunError;
 #[test]
 fn options_and_a_file(rt: HostRuntime) -> Result<(), Fail> {
     let mut request = Request::new(usual_limits());
-    for word in ["--items", "4", "day.calls", "--orders", "65536"] {
+    for word in [
+        "--items",
+        "4",
+        "day.calls",
+        "--journal",
+        "firm.journal",
+        "--orders",
+        "65536",
+    ] {
         assert!(rt; request.take(rt.alloc(), word).is_ok());
     }
     assert!(rt; request.end().is_ok());
     assert_eq!(rt; request.limits.items, 4);
     assert_eq!(rt; request.limits.orders, 65536);
     assert_eq!(rt; request.limits.lots, 128);
-    let Some(file) = request.file else {
+    let Request { file, journal, .. } = request;
+    let Some(file) = file else {
         return Err(Fail::new("no file"));
     };
     assert_eq!(rt; file.as_str(), "day.calls");
+    let Some(journal) = journal else {
+        return Err(Fail::new("no journal"));
+    };
+    assert_eq!(rt; journal.as_str(), "firm.journal");
     Ok(())
 }
 
