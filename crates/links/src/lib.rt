@@ -4,7 +4,7 @@
 
 #![tactic(auto)]
 
-ghost use Rattle.std.specs.Prelude.{◌≡◌};
+ghost use Rattle.std.specs.Prelude.{◌≡◌, ◌+◌, ◌^◌, ◌<◌};
 ghost use Rattle.links.specs.Area.{place_at, tail_at, header_of, after_in, tail_in, following_in, nth_in, inserted, removed, emptied, chained, filled};
 ghost use Rattle.links.specs.Rows.{RowsLaws};
 ghost use Rattle.links.specs.Walk.{cells_on, cells_in, cells_left};
@@ -37,11 +37,21 @@ impl Shape {
         }
     }
 
-    #[tactic(auto, unfolding(crate::specs::Area::tail_at))]
+    // Where the two words of a row lie, one behind the other: the link of its header, and its last place.
+    #[tactic(auto, unfolding(crate::specs::Area::place_at, crate::specs::Area::tail_at))]
+    fn row_at(self, row: u32) -> (usize, usize)
+        ensures link { self.cells + row < 2 ^ 32 → result.0 ≡ place_at self (header_of self row) }
+        ensures last { result.1 ≡ tail_at self row }
+        ensures beside { result.1 ≡ result.0 + 1 }
+    {
+        let link = self.heads_at as usize + self.head_step as usize * row as usize;
+        (link, link + 1)
+    }
+
     fn tail_at(self, row: u32) -> usize
         ensures { result ≡ tail_at self row }
     {
-        self.heads_at as usize + self.head_step as usize * row as usize + 1
+        self.row_at(row).1
     }
 
     fn after(self, words: &[u32], place: u32) -> u32
@@ -128,10 +138,10 @@ impl Shape {
     {
         let len = words.len();
         let (front, to_front) = (self.header(from), self.header(to));
-        let (first, to_first) = (self.place_at(front), self.place_at(to_front));
-        let (tail, to_tail) = (self.tail_at(from), self.tail_at(to));
+        let ((first, tail), (to_first, to_tail)) = (self.row_at(from), self.row_at(to));
         let link = self.place_at(cell);
-        if first >= len || to_first >= len || tail >= len || to_tail >= len || link >= len {
+        let most = u32::MAX - self.cells;
+        if from > most || to > most || tail >= len || to_tail >= len || link >= len {
             self.remove_after(words, from, front, cell);
             self.insert_after(words, to, to_front, cell);
             return;

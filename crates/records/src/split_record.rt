@@ -1,6 +1,6 @@
 //! Records in a row of words of each slice.
 
-ghost use Rattle.std.specs.Prelude.{◌≡◌};
+ghost use Rattle.std.specs.Prelude.{◌≡◌, ◌+◌, ◌≤◌, length};
 ghost use Rattle.records.specs.Kind.{Kind, Sound, word, read, write};
 ghost use Rattle.records.specs.State.{state};
 
@@ -23,10 +23,19 @@ pub trait SplitRecord: Copy + Drop + Default {
     final fn read(wide: &[u64], narrow: &[u32], wide_at: usize, narrow_at: usize) -> Self
         ensures { result ≡ read kind wide_at narrow_at (state wide.now narrow.now) }
     {
-        match (words::row(wide, wide_at), words::row(narrow, narrow_at)) {
-            (Some(wide_row), Some(narrow_row)) => Self::from_words(wide_row, narrow_row),
-            _ => Self::nothing(),
+        if !words::lies(wide.len(), wide_at, 2) || !words::lies(narrow.len(), narrow_at, 2) {
+            return Self::nothing();
         }
+        Self::read_there(wide, narrow, wide_at, narrow_at)
+    }
+
+    /// The record whose rows lie at `wide_at` and `narrow_at`.
+    final fn read_there(wide: &[u64], narrow: &[u32], wide_at: usize, narrow_at: usize) -> Self
+        requires wide_lies { wide_at + 2 ≤ length wide.now }
+        requires narrow_lies { narrow_at + 2 ≤ length narrow.now }
+        ensures { result ≡ read kind wide_at narrow_at (state wide.now narrow.now) }
+    {
+        Self::from_words(words::there(wide, wide_at), words::there(narrow, narrow_at))
     }
 
     // A function by itself, out of the way of the records that are there: in a loop, the compiler would make four zeros for each.

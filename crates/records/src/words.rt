@@ -11,6 +11,14 @@ pub fn lies(len: usize, at: usize, count: usize) -> bool
     count <= len && at <= len - count
 }
 
+/// The `N` words from `at` on.
+pub fn there<W, const N: usize>(words: &[W], at: usize) -> &[W; N]
+    requires { at + N ≤ length words.now }
+    ensures { result.now ≡ take N (drop at words.now) }
+{
+    words[at..at + N].first_chunk().unwrap()
+}
+
 /// The `N` words from `at` on, if they all lie in the slice.
 pub fn row<W, const N: usize>(words: &[W], at: usize) -> Option<&[W; N]>
     ensures { MatchOption result (length words.now < at + N) (λ y. (at + N ≤ length words.now) × (y.now ≡ take N (drop at words.now))) }
@@ -18,7 +26,7 @@ pub fn row<W, const N: usize>(words: &[W], at: usize) -> Option<&[W; N]>
     if !lies(words.len(), at, N) {
         return None;
     }
-    words[at..at + N].first_chunk()
+    Some(there(words, at))
 }
 
 /// Writes the words of a row from `at` on.

@@ -56,9 +56,9 @@ fn take_each(memory: &mut Memory<'_>, wants: &[Want], answer: &mut [u8], before:
                 taken = put_part(answer, taken, part);
                 continue 'wants;
             }
-            store::free_lot(memory, want.item, cell);
             taken = put_part(answer, taken, lot);
             left -= u64::from(lot.pieces);
+            store::free_lot(memory, want.item, cell);
         }
     }
     taken
