@@ -1,12 +1,12 @@
 -- Entries that are written while they are counted down. Assumes nothing.
-use Rattle.std.proofs.Common.{◌≡◌, ℕ, zero, suc, ◌+◌, ◌-◌, ◌*◌, ◌≤◌, min, cond, leb, List, [], ◌∷◌, ◌++◌, length, take, drop, Some, None, sym, refl, ap, ◌∙◌, subst, append_assoc, arith, length-append}
+use Rattle.std.proofs.Common.{◌≡◌, ℕ, zero, suc, ◌+◌, ◌-◌, ◌*◌, ◌<◌, ◌≤◌, min, cond, leb, ◌⊎◌, List, [], ◌∷◌, ◌++◌, length, take, drop, Some, None, sym, refl, ap, ◌∙◌, subst, inl, inr, append_assoc, arith, length-append}
 use Rattle.std.specs.List.{flat_map}
 use Rattle.std.proofs.lemmas.List.{length-take-le, take-append-le, take-take, take_at, drop_at, drop-drop}
 use Rattle.std.proofs.lemmas.List.FromFn.{length-map-range_with_len}
-use Rattle.std.proofs.lemmas.Bool.{cond-true, le-leb}
+use Rattle.std.proofs.lemmas.Bool.{cond-true, cond_both, leb-true, le-leb}
 use Rattle.fields.specs.Written.{Written, wrote, written, over, placed, line_put}
 use Rattle.fields.proofs.Numbers.{length_fields}
-use Rattle.fields.proofs.Rows.{fits}
+use Rattle.fields.proofs.Rows.{fits, too_long}
 use Rattle.firm.specs.Ledger.{Entry}
 use Rattle.firm.specs.Calls.{entries}
 use Rattle.layout.specs.Layout.{answer_need}
@@ -112,17 +112,36 @@ module _ (l : Limits) (s : State) where
   entries_few n k = omega (arith, length_on n (min k (count_of Entries s.narrow - n)))
 
   -- THE WHOLE ANSWER: its head, and then the lines behind it
-  pub counted_whole : (n k i m : ℕ) (old mid out : List ℕ) → i ≡ min n (count_of Entries s.narrow) → m ≡ min k (count_of Entries s.narrow - i) → k ≤ 256 → answer_need l ≤ length old →
+  pub counted_whole : (n k i m : ℕ) (old mid out : List ℕ) → i ≡ min n (count_of Entries s.narrow) → m ≡ min k (count_of Entries s.narrow - i) → 9 + 32 * m ≤ length old → answer_need l ≤ length old →
       mid ≡ (written (list_head 4 m) old).left → out ≡ over (take 9 mid ++ lines_on i m) mid →
       wrote (Some (9 + 32 * m)) out ≡ cond (leb (answer_need l) (length old)) (written (bytes_of_answer (entries (entries_met l n k s))) old) (wrote None old)
-  counted_whole n k i m old mid out first many few room e f =
+  counted_whole n k i m old mid out first many fit room e f =
       let head : length (list_head 4 m) ≡ 9 = ap suc (length_fields (m ∷ [])) in
-      let is : mid ≡ over (list_head 4 m) old = e ∙ sym (ap (λ (w : Written). w.left) (fits (list_head 4 m) old (over (list_head 4 m) old) 9 head (omega arith) refl)) in
+      let is : mid ≡ over (list_head 4 m) old = e ∙ sym (ap (λ (w : Written). w.left) (fits (list_head 4 m) old (over (list_head 4 m) old) 9 head (omega (arith, fit)) refl)) in
       let all : out ≡ over (list_head 4 m ++ lines_on i m) old = f ∙ ap (λ (b : List ℕ). over (take 9 b ++ lines_on i m) b) is ∙ behind_head (list_head 4 m) (lines_on i m) old head in
       let long : length (list_head 4 m ++ lines_on i m) ≡ 9 + 32 * m = length-append (list_head 4 m) (lines_on i m) ∙ omega (arith, head, length_lines i m) in
       let met : entries_on l i m s ≡ entries_met l n k s = met_on n k i m first many in
       let counted : m ≡ length (entries_met l n k s) = sym (length_on i m) ∙ ap length met in
-      fits (list_head 4 m ++ lines_on i m) old out (9 + 32 * m) long (omega (arith, room, many, few)) all
+      fits (list_head 4 m ++ lines_on i m) old out (9 + 32 * m) long fit all
       ∙ ap (λ (j : ℕ). written (list_head 4 j ++ lines_on i m) old) counted
       ∙ ap (λ (es : List Entry). written (list_head 4 (length (entries_met l n k s)) ++ flat_map entry_bytes es) old) met
       ∙ sym (cond-true (leb (answer_need l) (length old)) _ _ (le-leb _ _ room))
+
+  -- and where the bytes are too few, none of it
+  pub counted_short : (n k i m : ℕ) (old : List ℕ) → i ≡ min n (count_of Entries s.narrow) → m ≡ min k (count_of Entries s.narrow - i) →
+      (length old < answer_need l) ⊎ (length old < 9 + 32 * m) → wrote None old ≡ cond (leb (answer_need l) (length old)) (written (bytes_of_answer (entries (entries_met l n k s))) old) (wrote None old)
+  counted_short n k i m old first many short =
+      cond_both (leb (answer_need l) (length old)) (written row old) (wrote None old) (λ (w : Written). wrote None old ≡ w) (λ room. by (leb-true _ _ room) short) (λ _. refl)
+    where
+      row : List ℕ
+      row = bytes_of_answer (entries (entries_met l n k s))
+
+      long : length row ≡ 9 + 32 * m
+      long =
+          let head : length (list_head 4 (length (entries_met l n k s))) ≡ 9 = ap suc (length_fields (length (entries_met l n k s) ∷ [])) in
+          length-append (list_head 4 (length (entries_met l n k s))) (flat_map entry_bytes (entries_met l n k s))
+          ∙ omega (arith, head, length_joined entry_bytes 32 length_entry (entries_met l n k s), ap length (met_on n k i m first many), length_on i m)
+
+      by : answer_need l ≤ length old → (length old < answer_need l) ⊎ (length old < 9 + 32 * m) → wrote None old ≡ written row old
+      by room (inl lt) = absurd (omega (arith, room, lt))
+      by room (inr lt) = too_long row old (9 + 32 * m) long lt

@@ -37,18 +37,19 @@ fn put_entries(view: View<'_>, first: u32, many: u32, answer: &mut [u8])
     }
 }
 
-/// Writes the entries from `first` on, `count` at most, as an answer: its length, or none where the bytes are fewer than the limits ask for.
+/// Writes the entries from `first` on, `count` at most, as an answer: its length, or none where the bytes are fewer than the limits ask for,
+/// or than the answer has, as it can be where more than 256 entries are wanted.
 pub fn write_entries(view: View<'_>, first: u64, count: u32, answer: &mut [u8]) -> Option<usize>
-    requires { count ≤ 256 }
     ensures { wrote result answer.new ≡ entries_written view.entry.limits first count (seen view.entry) answer.old }
 {
-    if answer.len() < view.limits.answer_need() {
-        return None;
-    }
     let entries = view.count(Counter::Entries);
     let first = first.min(u64::from(entries)) as u32;
     let many = count.min(entries - first);
+    let length = ONE_FIELD + ROW_OF_FOUR * many as usize;
+    if answer.len() < view.limits.answer_need() || answer.len() < length {
+        return None;
+    }
     let _ = EntryLine::begin(answer, u64::from(many));
     put_entries(view, first, many, answer);
-    Some(ONE_FIELD + ROW_OF_FOUR * many as usize)
+    Some(length)
 }
