@@ -14,19 +14,19 @@ use Rattle.records.specs.declared.order.Order.{Order}
 use Rattle.store.specs.Steps.{counted_out}
 use Rattle.taking.specs.Takes.{want, cost_of, cost_taken, Taking, take_all}
 use Rattle.taking.specs.declared.wants.Want.{Want}
-use Rattle.rules.specs.Checks.{document_fits, room, enters}
+use Rattle.rules.specs.Checks.{document_fits, room, enters, moved_more}
 use Rattle.rules.specs.Entering.{entered}
 use Rattle.rules.specs.Outcome.{Outcome, outcome, refuse}
-use Rattle.rules.specs.Receiving.{moved_more, with_order}
+use Rattle.rules.specs.Receiving.{with_order}
 use Rattle.rules.specs.Totals.{raised, lowered}
 
--- the order moves, and its pieces are taken
-abbrev pub gone_of : Limits → ℕ → Order → ℕ → State → Taking
-gone_of l k o q s = take_all l (want o.item q ∷ []) (with_order l k (moved_more o q) s)
+-- the order o that has moved takes its place, and what is wanted is taken
+abbrev pub gone_of : Limits → ℕ → Order → Want → State → Taking
+gone_of l k o w s = take_all l (w ∷ []) (with_order l k o s)
 
--- so with the order of a number
+-- so with q pieces of the order of a number
 abbrev pub gone : Limits → ℕ → ℕ → State → Taking
-gone l k q s = gone_of l k (order_record l k s.narrow) q s
+gone l k q s = let o : Order = order_record l k s.narrow in gone_of l k (moved_more o q) (want o.item q) s
 
 -- what went cost x: all lots cost as much less, all entries come to as much more, and there is a document more
 abbrev pub summed_out : ℕ → State → State

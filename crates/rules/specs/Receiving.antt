@@ -11,14 +11,10 @@ use Rattle.records.specs.declared.lot.Lot.{Lot}
 use Rattle.records.specs.declared.order.Order.{Order}
 use Rattle.store.specs.Steps.{After, add_lot, set_order, count_in}
 use Rattle.store.specs.declared.refusal.Refusal.{Refusal}
-use Rattle.rules.specs.Checks.{document_fits, enters, worth_fits}
+use Rattle.rules.specs.Checks.{document_fits, enters, worth_fits, moved_more}
 use Rattle.rules.specs.Entering.{entered}
 use Rattle.rules.specs.Outcome.{Outcome, outcome, refuse}
 use Rattle.rules.specs.Totals.{raised}
-
--- the order of which q pieces more have moved
-abbrev pub moved_more : Order → ℕ → Order
-moved_more o q = record { sells = o.sells; item = o.item; pieces = o.pieces; price = o.price; moved = o.moved + q; billed = o.billed }
 
 abbrev pub with_order : Limits → ℕ → Order → State → State
 with_order l k o s = state s.wide (set_order l k o s.narrow).left
@@ -27,10 +23,9 @@ with_order l k o s = state s.wide (set_order l k o s.narrow).left
 abbrev pub summed : ℕ → State → State
 summed x s = state (raised Documents 1 (raised Booked x (raised Worth x s.wide))) s.narrow
 
--- on memory that has the lot already and counts it: the order moves, and the cost is entered on 0 and 1
+-- on memory that has the lot already and counts it: the order o that has moved takes its place, and the cost x is entered on 0 and 1
 unfoldable pub received : Limits → ℕ → Order → ℕ → ℕ → State → State
-received l k o q d s =
-    summed (q * o.price) (entered l (record { left = 0; right = 1; amount = q * o.price; «document» = d }) (with_order l k (moved_more o q) s))
+received l k o x d s = summed x (entered l (record { left = 0; right = 1; amount = x; «document» = d }) (with_order l k o s))
 
 abbrev pub comes_fits : Limits → ℕ → State → Bool
 comes_fits l x s = enters l x s && (worth_fits x s && document_fits s)
@@ -41,7 +36,7 @@ new_lot o q d = record { item = o.item; pieces = q; cost = q * o.price; «docume
 
 -- by what came of adding the lot, which leaves t: it is counted for its item. The answer is the document's number
 abbrev pub stored : Limits → ℕ → Order → ℕ → ℕ → State → Result ℕ Refusal → Outcome
-stored l k o q d t (Ok c) = outcome (number d) (received l k o q d (state (count_in l c t) t.narrow))
+stored l k o q d t (Ok c) = outcome (number d) (received l k (moved_more o q) (q * o.price) d (state (count_in l c t) t.narrow))
 stored l k o q d t (Err e) = outcome (refused 9 0) t
 
 abbrev pub placed : Limits → ℕ → Order → ℕ → ℕ → After ℕ State → Outcome

@@ -1,6 +1,6 @@
 //! Goods that go on an order to sell.
 
-ghost use Rattle.std.specs.Prelude.{◌≡◌, ◌+◌, ◌≤◌, MatchResult};
+ghost use Rattle.std.specs.Prelude.{◌≡◌, MatchResult};
 ghost use Rattle.firm.specs.Calls.{lots};
 ghost use Rattle.layout.specs.declared.head.Total.TheVariants.{Documents};
 ghost use Rattle.memory.specs.Books.{total_of};
@@ -35,23 +35,14 @@ pub fn goods_fit(view: View<'_>, want: Want) -> Option<u64>
     next_document(view)
 }
 
-// The order moves, and its pieces are taken and told in the answer.
-fn take(memory: &mut Memory<'_>, number: u32, order: Order, pieces: u32, answer: &mut [u8]) -> Taken
-    requires { order.moved + pieces ≤ order.pieces }
-    ensures words { words memory.new ≡ (gone_of memory.old.limits number order pieces (words memory.old)).slices }
+// The order that has moved takes its place, and what is wanted is taken and told in the answer.
+fn take(memory: &mut Memory<'_>, number: u32, moved: Order, want: Want, answer: &mut [u8]) -> Taken
+    ensures words { words memory.new ≡ (gone_of memory.old.limits number moved want (words memory.old)).slices }
     ensures same { Same memory.old memory.new }
-    ensures answer { tally answer.new result ≡ told (gone_of memory.old.limits number order pieces (words memory.old)).parts answer.old }
-    ensures cost { result.cost ≡ cost_taken (gone_of memory.old.limits number order pieces (words memory.old)) }
+    ensures answer { tally answer.new result ≡ told (gone_of memory.old.limits number moved want (words memory.old)).parts answer.old }
+    ensures cost { result.cost ≡ cost_taken (gone_of memory.old.limits number moved want (words memory.old)) }
 {
-    let moved = Order {
-        moved: order.moved + pieces,
-        ..order
-    };
     let _ = store::set_order(memory, number, moved);
-    let want = Want {
-        item: order.item,
-        pieces: u64::from(pieces),
-    };
     taking::take_all(memory, &[want], answer)
 }
 
@@ -96,7 +87,7 @@ pub fn goes(
     let Some(order) = to_sell(order) else {
         return Err(Refused::first(Refusal::OtherKind));
     };
-    let Some(_moved) = moves(order, pieces) else {
+    let Some(moved) = moves(order, pieces) else {
         return Err(Refused::second(Refusal::TooMany));
     };
     let Some(_there) = on_hand(memory.view(), order.item, pieces) else {
@@ -109,7 +100,7 @@ pub fn goes(
     let Some(document) = goods_fit(memory.view(), want) else {
         return Err(Refused::first(Refusal::OverLimits));
     };
-    let taken = take(memory, number, order, pieces, answer);
+    let taken = take(memory, number, moved, want, answer);
     issued(memory, Account::CostOfSales, want, taken.cost, document);
     Ok(taken)
 }

@@ -20,8 +20,8 @@ use Rattle.memory.specs.Books.{count_of, total_of, order_record, put_order}
 use Rattle.questions.specs.Entries.{entry_of}
 use Rattle.records.specs.State.{State, state}
 use Rattle.records.specs.declared.order.Order.{Order}
-use Rattle.rules.specs.Billing.{billed_more, bill_fits, order_billed}
-use Rattle.rules.specs.Checks.{document_fits, room}
+use Rattle.rules.specs.Billing.{bill_fits, order_billed}
+use Rattle.rules.specs.Checks.{document_fits, room, billed_more}
 use Rattle.rules.specs.Totals.{raised, booked}
 use Rattle.store.specs.Laws.{with_orders, with_entries, with_total, with_balances}
 use Rattle.store.specs.Steps.{After, after, set_order}

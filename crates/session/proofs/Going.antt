@@ -30,12 +30,12 @@ use Rattle.records.specs.State.{State, state}
 use Rattle.records.specs.declared.account.Account.TheVariants.{CostOfSales}
 use Rattle.records.specs.declared.entry.Entry.{Entry}
 use Rattle.records.specs.declared.order.Order.{Order}
-use Rattle.rules.specs.Checks.{document_fits, enters as entering}
+use Rattle.rules.specs.Checks.{document_fits, enters as entering, moved_more}
 use Rattle.rules.specs.Entering.{entered}
 use Rattle.rules.specs.Going.{gone, summed_out, issued, goods_fit, let_go}
 use Rattle.rules.specs.Going as going
 use Rattle.rules.specs.Outcome.{refuse}
-use Rattle.rules.specs.Receiving.{moved_more, with_order}
+use Rattle.rules.specs.Receiving.{with_order}
 use Rattle.rules.specs.Totals.{raised, lowered}
 use Rattle.store.specs.Laws.{with_orders, with_entries, with_total, with_stocks, with_balances, stock_without}
 use Rattle.store.specs.Steps.{After, after, set_order, counted_out}

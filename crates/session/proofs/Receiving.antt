@@ -30,10 +30,10 @@ use Rattle.records.specs.State.{State, state}
 use Rattle.records.specs.declared.entry.Entry.{Entry}
 use Rattle.records.specs.declared.lot.Lot.{Lot}
 use Rattle.records.specs.declared.order.Order.{Order}
-use Rattle.rules.specs.Checks.{document_fits, enters as entering, worth_fits}
+use Rattle.rules.specs.Checks.{document_fits, enters as entering, worth_fits, moved_more}
 use Rattle.rules.specs.Entering.{entered}
 use Rattle.rules.specs.Outcome.{refuse}
-use Rattle.rules.specs.Receiving.{moved_more, with_order, summed, received, comes_fits, new_lot, placed, comes}
+use Rattle.rules.specs.Receiving.{with_order, summed, received, comes_fits, new_lot, placed, comes}
 use Rattle.rules.specs.Totals.{raised}
 use Rattle.store.specs.Laws.{with_lots, with_orders, with_entries, with_total, with_stocks, with_balances, stock_with}
 use Rattle.store.specs.Steps.{After, after, lot_placed, add_lot, set_order, lot_counted, count_in}
@@ -257,7 +257,7 @@ module _ (l : Limits) (s : State) (f : Firm) (k q : ℕ) (good : Good (limits_of
             (omega (arith, tested.0, stands₂.entries.count, h.stands.entries.count)) (omega (arith, tested.1, h.stands.frame.totals Booked, h.booked))
 
         -- the totals, and what all of it stands for
-        received_means : Means (limits_of l) (received (limits_of l) k o q d s₁) (changed f c)
+        received_means : Means (limits_of l) (received (limits_of l) k o' x d s₁) (changed f c)
         unfolding received
         received_means =
             subst (Means (limits_of l) (summed x s₃)) (sym changed_is) (record {

@@ -23,12 +23,12 @@ use Rattle.rules.specs.declared.billing.Bill.{Bill}
 use Rattle.rules.specs.Counting as counting
 use Rattle.rules.specs.Making as making
 use Rattle.rules.specs.Recipes.{some_parts, recipe_fits, recipe_kept}
-use Rattle.rules.specs.Checks.{one, owed, document_fits}
+use Rattle.rules.specs.Checks.{one, owed, document_fits, moved_more}
 use Rattle.rules.specs.Ordering.{new_order, order_fields, added, ordered}
 use Rattle.rules.specs.Outcome.{Outcome, outcome, refuse}
 use Rattle.rules.specs.Going.{gone, goods_fit, let_go}
 use Rattle.rules.specs.Paying.{paid, pays_fits, pays}
-use Rattle.rules.specs.Receiving.{comes_fits, new_lot, placed, stored, moved_more, with_order}
+use Rattle.rules.specs.Receiving.{comes_fits, new_lot, placed, stored, with_order}
 use Rattle.taking.specs.Parts.{part_of}
 use Rattle.taking.specs.Takes.{want, take_all, take_counted}
 use Rattle.taking.specs.declared.wants.Want.{Want}
