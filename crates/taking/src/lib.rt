@@ -6,7 +6,6 @@
 ghost use Rattle.taking.specs.Laws.{TakingLaws};
 
 mod costs;
-mod oldest;
 mod parts;
 mod takes;
 mod wants;
