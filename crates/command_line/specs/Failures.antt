@@ -5,13 +5,13 @@ use Rattle.session.specs.Held as run
 use Rattle.session.specs.declared.error.RunError.TheVariants as run_error
 use Rattle.journal.specs.Errors.{error_text}
 use Rattle.journal.specs.declared.error.ReplayError.TheVariants as replay_error
-use Rattle.command_line.specs.Options.{option_name, misuse_text}
+use Rattle.arguments.specs.Options.{option_name, misuse_text}
 use Rattle.command_line.specs.declared.failure.Failure.{Failure}
 use Rattle.command_line.specs.declared.failure.Failure.TheVariants.{Arguments, Word, End, File, Input, Output, Run, Journal}
-use Rattle.command_line.specs.declared.misuse.Misuse.{Misuse}
+use Rattle.arguments.specs.declared.misuse.Misuse.{Misuse}
 use Rattle.command_line.specs.declared.trouble.Trouble.{Trouble}
 use Rattle.command_line.specs.declared.trouble.Trouble.TheVariants.{System, Locked, NoJournal, OtherLimits, Stopped, CallsToo, StreamClosed}
-use Rattle.command_line.specs.declared.misuse.Misuse.TheVariants.{NoSuchOption, SecondFile, SecondJournal, NotANumber, NumberMissing, JournalMissing, OutOfMemory}
+use Rattle.arguments.specs.declared.misuse.Misuse.TheVariants.{NoSuchOption, SecondFile, SecondJournal, NotANumber, NumberMissing, JournalMissing, OutOfMemory}
 
 -- what is said of a word
 abbrev pub word_text : List ℕ → Misuse → List ℕ

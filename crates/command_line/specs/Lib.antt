@@ -1,3 +1,1 @@
-pub mod Options
-pub mod Requests
 pub mod Failures

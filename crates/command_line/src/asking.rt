@@ -1,7 +1,7 @@
 //! The words of a program's arguments.
 
 use crate::failure::Failure;
-use crate::request::Request;
+use arguments::Request;
 use layout::Limits;
 use std::env;
 

@@ -4,8 +4,8 @@ ghost use Rattle.std.specs.Prelude.{◌≡◌};
 ghost use Rattle.command_line.specs.Failures.{failure_text, FailureOf};
 ghost use Rattle.command_line.specs.declared.failure.Failure.TheVariants.{Run};
 
-use crate::misuse::Misuse;
 use crate::trouble::Trouble;
+use arguments::Misuse;
 use journal::ReplayError;
 use std::alloc::Global;
 use std::error::Error;

@@ -12,8 +12,6 @@ mod promises;
 mod rows;
 mod running;
 mod short;
-#[cfg(test)]
-mod tests;
 
 pub use boundary::limits_from;
 pub use calling::call;

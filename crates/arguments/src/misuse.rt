@@ -1,8 +1,8 @@
 //! What can be wrong with the arguments.
 
 ghost use Rattle.std.specs.Prelude.{◌≡◌, Some};
-ghost use Rattle.command_line.specs.Options.{misuse_text};
-ghost use Rattle.command_line.specs.declared.misuse.Misuse.TheVariants.{OutOfMemory};
+ghost use Rattle.arguments.specs.Options.{misuse_text};
+ghost use Rattle.arguments.specs.declared.misuse.Misuse.TheVariants.{OutOfMemory};
 
 use crate::limit::Limit;
 use std::alloc::AllocError;

@@ -1,8 +1,8 @@
 //! What the arguments ask for, word by word.
 
 ghost use Rattle.std.specs.Prelude.{◌≡◌};
-ghost use Rattle.command_line.specs.Options.{Took, usual_limits, number_to, nothing_asked, with_number, option_taken, with_file, with_journal, word_taken, ended, most};
-ghost use Rattle.command_line.specs.Requests.{asked};
+ghost use Rattle.arguments.specs.Options.{Took, usual_limits, number_to, nothing_asked, with_number, option_taken, with_file, with_journal, word_taken, ended, most};
+ghost use Rattle.arguments.specs.Requests.{asked};
 
 use crate::limit::Limit;
 use crate::misuse::Misuse;

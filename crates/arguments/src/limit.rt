@@ -1,7 +1,7 @@
 //! The options that widen the books.
 
 ghost use Rattle.std.specs.Prelude.{◌≡◌, Some};
-ghost use Rattle.command_line.specs.Options.{most, with_limit, option_name, limit_named, named_or_misuse};
+ghost use Rattle.arguments.specs.Options.{most, with_limit, option_name, limit_named, named_or_misuse};
 
 use crate::misuse::Misuse;
 use layout::Limits;

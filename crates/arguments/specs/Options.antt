@@ -6,12 +6,12 @@ use Rattle.std.specs.Str.{bytes_eq}
 use Rattle.layout.specs.Layout.{most_items, most_orders, most_lots, most_parts, most_entries}
 use Rattle.layout.specs.declared.limits.Limits.{Limits}
 use Rattle.words.specs.Numerals.{valued}
-use Rattle.command_line.specs.declared.limit.Limit.{Limit}
-use Rattle.command_line.specs.declared.limit.Limit.TheVariants.{Items, Orders, Lots, Parts, Entries}
-use Rattle.command_line.specs.declared.misuse.Misuse.{Misuse}
-use Rattle.command_line.specs.declared.misuse.Misuse.TheVariants.{NoSuchOption, SecondFile, SecondJournal, NotANumber, NumberMissing, JournalMissing, OutOfMemory}
-use Rattle.command_line.specs.declared.request.Wanted.{Wanted}
-use Rattle.command_line.specs.declared.request.Wanted.TheVariants.{Number, Journal}
+use Rattle.arguments.specs.declared.limit.Limit.{Limit}
+use Rattle.arguments.specs.declared.limit.Limit.TheVariants.{Items, Orders, Lots, Parts, Entries}
+use Rattle.arguments.specs.declared.misuse.Misuse.{Misuse}
+use Rattle.arguments.specs.declared.misuse.Misuse.TheVariants.{NoSuchOption, SecondFile, SecondJournal, NotANumber, NumberMissing, JournalMissing, OutOfMemory}
+use Rattle.arguments.specs.declared.request.Wanted.{Wanted}
+use Rattle.arguments.specs.declared.request.Wanted.TheVariants.{Number, Journal}
 
 -- the limits of new books where no option says otherwise
 abbrev pub usual_limits : Limits
