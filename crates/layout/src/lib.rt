@@ -3,7 +3,7 @@
 
 #![tactic(auto)]
 
-ghost use Rattle.std.specs.Prelude.{◌≡◌, ℕ, ◌+◌, ◌&&◌, T, nat_le, nat_lt};
+ghost use Rattle.std.specs.Prelude.{◌≡◌, T};
 ghost use Rattle.layout.specs.Areas.{Areas};
 ghost use Rattle.layout.specs.Budget.{Budget};
 ghost use Rattle.layout.specs.Layout.{Good, is_good, count_at, total_at, balance_at, stock_at, recipe_at, orders_at, order_at, lots_at, lot_at, parts_at, part_at, entries_at, entry_at, entry_links_at, narrow_need, wide_lots_at, wide_lot_at, wide_entries_at, wide_entry_at, wide_need, answer_need, capped, lot_rows, order_rows, entry_rows};
@@ -157,19 +157,6 @@ impl Limits {
         ensures { result ≡ wide_lot_at self lot }
     {
         STOCKS_AT as usize + 2 * self.items as usize + 2 * lot as usize
-    }
-
-    /// How many cells, from the first on, have both rows of their lot in slices of so many words: one number, so that a lot is read after one test.
-    #[inline(always)]
-    pub fn lots_within(self, wide: usize, narrow: usize) -> usize
-        ensures { (c : ℕ) → nat_lt c result ≡ (nat_le (wide_lot_at self c + 2) wide && nat_le (lot_at self c + 2) narrow) }
-    {
-        let in_wide = wide.saturating_sub(self.wide_lot_at(0)) / 2;
-        let in_narrow = match narrow.checked_sub(self.lot_at(0) + 2) {
-            Some(over) => over / LOT_WORDS as usize + 1,
-            None => 0,
-        };
-        in_wide.min(in_narrow)
     }
 
     /// Where the wide row of an entry lies.

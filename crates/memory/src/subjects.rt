@@ -1,6 +1,7 @@
 //! The records of orders, lots, entries and recipes, each by its number or cell.
 
-ghost use Rattle.std.specs.Prelude.{◌≡◌};
+ghost use Rattle.std.specs.Prelude.{◌≡◌, ℕ, ◌+◌, ◌&&◌, length, nat_le, nat_lt};
+ghost use Rattle.layout.specs.Layout.{lot_at, wide_lot_at};
 ghost use Rattle.memory.specs.Books.{order_record, put_order, lot_record, put_lot, entry_record, put_entry, part_record, put_part, recipe_of, put_recipe};
 ghost use Rattle.memory.specs.Lent.{seen, words, Same, NarrowAlone};
 
@@ -17,13 +18,23 @@ impl View<'_> {
         Order::read(self.narrow, self.limits.order_at(order))
     }
 
+    // How many cells, from the first on, have both rows of their lot in memory: one number, so that a lot is read after one test.
+    #[inline(always)]
+    fn lots_there(self) -> usize
+        ensures { (c : ℕ) → nat_lt c result ≡ (nat_le (wide_lot_at self.entry.limits c + 2) (length self.entry.wide.now) && nat_le (lot_at self.entry.limits c + 2) (length self.entry.narrow.now)) }
+    {
+        let (wide, narrow) = (self.limits.wide_lot_at(0), self.limits.lot_at(0));
+        let in_wide = self.wide.len().saturating_sub(wide) / 2;
+        let in_narrow = self.narrow.len().saturating_add(2).saturating_sub(narrow) / 4;
+        in_wide.min(in_narrow)
+    }
+
     /// The lot of a cell.
     #[tactic(auto, unfolding(crate::specs::Books::lot_record))]
     pub fn lot(self, lot: u32) -> Lot
         ensures { result ≡ lot_record self.entry.limits lot (seen self.entry) }
     {
-        let there = self.limits.lots_within(self.wide.len(), self.narrow.len());
-        if lot as usize >= there {
+        if lot as usize >= self.lots_there() {
             return Lot::nothing();
         }
         let at = self.limits.lot_at(lot);

@@ -6,6 +6,7 @@
 ghost use Rattle.taking.specs.Laws.{TakingLaws};
 
 mod costs;
+mod oldest;
 mod parts;
 mod takes;
 mod wants;

@@ -5,7 +5,7 @@ ghost use Rattle.memory.specs.Lent.{words, Same};
 ghost use Rattle.questions.specs.Listing.{lot_of};
 ghost use Rattle.taking.specs.Takes.{most_lines, taken_each, take_all, cost_taken, take_counted, tally, nothing_taken, with_part, tallied, told};
 
-use crate::parts::take_part;
+use crate::oldest::take_part;
 use crate::wants::{Taken, Want};
 use memory::Memory;
 use records::Lot;
