@@ -41,16 +41,15 @@ fn part_wanted(view: View<'_>, row: u32, pieces: u32) -> Want
     }
 }
 
-// What the rows of a recipe ask for so many pieces, as many as a recipe can have.
-fn wants_of(view: View<'_>, recipe: Recipe, pieces: u32) -> [Want; MOST_PARTS]
-    ensures { result ≡ wants_of view.entry.limits recipe pieces view.entry.narrow.now }
+// Fills in what the rows of a recipe ask for so many pieces, as many as a recipe can have. An array that is answered would be copied, by a function
+// of C's library.
+fn fill_wants(view: View<'_>, recipe: Recipe, pieces: u32, wants: &mut [Want; MOST_PARTS])
+    ensures { wants.new ≡ wants_of view.entry.limits recipe pieces view.entry.narrow.now }
 {
-    let mut wants = [Want { item: 0, pieces: 0 }; MOST_PARTS];
     for part in 0..MOST_PARTS {
         let row = recipe.first.saturating_add(part as u32);
         wants[part] = part_wanted(view, row, pieces);
     }
-    wants
 }
 
 // Pieces of an item that are wanted in all: a recipe may name it more than once.
@@ -158,7 +157,8 @@ pub fn makes(
     let Some(recipe) = known_recipe(memory.view(), item) else {
         return Err(Refused::first(Refusal::NoRecipe));
     };
-    let rows = wants_of(memory.view(), recipe, pieces);
+    let mut rows = [Want { item: 0, pieces: 0 }; MOST_PARTS];
+    fill_wants(memory.view(), recipe, pieces, &mut rows);
     let wants = &rows[..MOST_PARTS.min(recipe.parts as usize)];
     let Some(wants) = all_lie(memory.view(), wants).then_some(wants) else {
         return Err(Refused::second(Refusal::NotOnHand));

@@ -1,6 +1,6 @@
 use Rattle.std.proofs.Common.{◌≡◌, ◌-◌, ◌++◌, length, take}
 use Rattle.rules.specs.Making.{wants_on, wants_of}
-use Rattle.rules.proofs.making.wants_of.Given as goal
+use Rattle.rules.proofs.making.fill_wants.Given as goal
 
 abbrev pub invariant-loop-part : goal.invariant-loop-part
 invariant-loop-part l =

@@ -1,11 +1,11 @@
 use Rattle.std.proofs.Common.{refl, ap, ◌∙◌, arith, length-set}
 use Rattle.rules.specs.Making.{part_wanted, wants_of}
 use Rattle.rules.proofs.Rows.{row_written, all_written}
-use Rattle.rules.proofs.making.wants_of.Goals as goal
+use Rattle.rules.proofs.making.fill_wants.Goals as goal
 
 pub loop-part-init : goal.loop-part-init
 unfolding wants_of
-loop-part-init c = (refl, refl)
+loop-part-init c = (c.told-wants, refl)
 
 pub loop-part-preserved : goal.loop-part-preserved
 loop-part-preserved c =
