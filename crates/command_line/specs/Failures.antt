@@ -3,6 +3,8 @@ use Rattle.std.specs.Prelude.{◌≡◌, ◌⊎◌, ℕ, List, ◌++◌, Some, N
 use Rattle.std.specs.Option.{option_map}
 use Rattle.session.specs.Held as run
 use Rattle.session.specs.declared.error.RunError.TheVariants as run_error
+use Rattle.text.specs.declared.streaming.StreamError.{StreamError}
+use Rattle.text.specs.declared.streaming.StreamError.TheVariants as stream_error
 use Rattle.journal.specs.Errors.{error_text}
 use Rattle.journal.specs.declared.error.ReplayError.TheVariants as replay_error
 use Rattle.arguments.specs.Options.{option_name, misuse_text}
@@ -43,6 +45,12 @@ failure_text (Arguments e) = None
 failure_text (File f e) = None
 failure_text (Input e) = None
 failure_text (Output e) = None
+
+-- why a program fails whose standard input is not answered to its end
+abbrev pub stopped : StreamError → Failure
+stopped (stream_error.Input e) = Input e
+stopped (stream_error.Output e) = Output e
+stopped (stream_error.OutOfMemory e) = Run run_error.OutOfMemory
 
 -- what is said of a journal's trouble: its name and what is wrong, or want of memory
 abbrev pub FailureOf : List ℕ → Trouble → Failure → Type 0

@@ -1,7 +1,7 @@
 //! Why a program writes nothing.
 
 ghost use Rattle.std.specs.Prelude.{◌≡◌};
-ghost use Rattle.command_line.specs.Failures.{failure_text, FailureOf};
+ghost use Rattle.command_line.specs.Failures.{failure_text, stopped, FailureOf};
 ghost use Rattle.command_line.specs.declared.failure.Failure.TheVariants.{Run};
 
 use crate::trouble::Trouble;
@@ -10,7 +10,7 @@ use journal::ReplayError;
 use std::alloc::Global;
 use std::error::Error;
 use std::{fmt, io};
-use text::RunError;
+use text::{RunError, StreamError};
 
 /// Why a program fails; it is printed as one line.
 #[derive(Debug, Drop)]
@@ -38,6 +38,18 @@ impl From<RunError> for Failure {
 
     fn from(e: RunError) -> Failure {
         Failure::Run(e)
+    }
+}
+
+impl From<StreamError> for Failure {
+    ghost from_gives = { λ e failure. failure ≡ stopped e };
+
+    fn from(e: StreamError) -> Failure {
+        match e {
+            StreamError::Input(e) => Failure::Input(e),
+            StreamError::Output(e) => Failure::Output(e),
+            StreamError::OutOfMemory(e) => Failure::Run(RunError::from(e)),
+        }
     }
 }
 

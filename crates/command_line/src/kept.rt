@@ -7,7 +7,7 @@ use crate::keeper::Keeper;
 use crate::lock::Lock;
 use crate::program::{Program, write};
 use crate::trouble::Trouble;
-use crate::typing::answer_lines;
+use crate::typing::keep_input;
 use journal::replay;
 use layout::Limits;
 use std::alloc::Global;
@@ -76,7 +76,7 @@ impl Kept<'_> {
         self.tell_torn(rt, torn);
         let Kept { journal, calls, .. } = self;
         let Some(calls) = calls else {
-            return answer_lines(rt, &mut keeper, journal);
+            return keep_input(rt, &mut keeper, journal);
         };
         let text = fs::read(rt, calls.as_str()).map_err(|e| Failure::File(calls, e))?;
         let answer = keeper.answer(rt.alloc(), text.as_slice());

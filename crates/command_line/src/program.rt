@@ -4,16 +4,15 @@ ghost use Rattle.std.specs.Prelude.{◌≡◌, ◌⊎◌};
 
 use crate::asking::request;
 use crate::failure::Failure;
-use crate::keeper::Keeper;
 use crate::kept::Kept;
-use crate::typing::answer_lines;
+use crate::typing::answer_input;
 use arguments::{Request, usual_limits};
 use layout::Limits;
 use std::alloc::Global;
 use std::io::{Read, Write};
 use std::process::ExitCode;
 use std::{fs, io};
-use text::RunError;
+use text::{Books, RunError};
 
 const OPTIONS: &str =
     "[--items N] [--orders N] [--lots N] [--parts N] [--entries N] [--journal FILE] [CALLS]";
@@ -84,8 +83,8 @@ impl Program {
             return kept.answer(rt, limits, work);
         }
         if self.by_line && file.is_none() {
-            let mut keeper = Keeper::new(rt.alloc(), limits)?;
-            return answer_lines(rt, &mut keeper, "");
+            let mut books = Books::open(rt.alloc(), limits)?;
+            return answer_input(rt, &mut books);
         }
         let text = input(rt, file)?;
         write(rt, work(rt.alloc(), limits, text.as_slice())?)

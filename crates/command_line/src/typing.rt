@@ -3,9 +3,17 @@
 use crate::failure::Failure;
 use crate::keeper::Keeper;
 use std::io::{BufRead, BufReader, Write};
+use text::Books;
 
-/// Answers each line of standard input before the next one is read, on books that last in this journal, if in any.
-pub fn answer_lines(rt: &HostRuntime, keeper: &mut Keeper, journal: &str) -> Result<(), Failure> {
+/// Answers standard input on books that end with the program.
+pub fn answer_input(rt: &HostRuntime, books: &mut Books) -> Result<(), Failure> {
+    let mut input = BufReader::new(rt.alloc(), rt.stdin()).map_err(Failure::Input)?;
+    books.answer_stream(rt.alloc(), &mut input, &mut rt.stdout())?;
+    Ok(())
+}
+
+/// Answers each line of standard input before the next one is read, on books that last in this journal.
+pub fn keep_input(rt: &HostRuntime, keeper: &mut Keeper, journal: &str) -> Result<(), Failure> {
     let mut input = BufReader::new(rt.alloc(), rt.stdin()).map_err(Failure::Input)?;
     // A count, since a reader may never end.
     for _line in 0..u64::MAX {

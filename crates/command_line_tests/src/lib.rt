@@ -1,4 +1,4 @@
-//! Tests of arguments: words one after the other, and what is said of those that are wrong.
+//! Tests of arguments: words one after the other, and what is said of those that are wrong; and of a stream that is answered to its end.
 
 #![tactic(auto)]
 
@@ -6,9 +6,10 @@
 mod tests {
     use arguments::{Limit, Misuse, Request, usual_limits};
     use command_line::Failure;
+    use std::io::BufReader;
     use std::process::Abort;
     use std::test::Fail;
-    use text::RunError;
+    use text::{Books, RunError};
 
     #[test]
     fn options_and_a_file(rt: HostRuntime) -> Result<(), Fail> {
@@ -76,5 +77,25 @@ mod tests {
             Failure::Run(RunError::LimitsOutOfRange),
             "limits out of range",
         )
+    }
+
+    // What a stream is answered: a line at a time or many, with a last line that has no line feed.
+    #[test]
+    fn a_stream_to_its_end(rt: HostRuntime) -> Result<(), Fail> {
+        let calls = b"buys 0 100 7\ncomes 0 60\n# a remark\n\ncomes 0 41\r\nstock of 0";
+        let Ok(mut books) = Books::open(rt.alloc(), usual_limits()) else {
+            return Err(Fail::new("no books"));
+        };
+        let mut input = BufReader::with_capacity(rt.alloc(), 16, &calls[..])?;
+        let mut answers = Vec::new(rt.alloc());
+        let answered = books.answer_stream(rt.alloc(), &mut input, &mut answers);
+        assert!(rt; answered.is_ok());
+        assert_eq!(rt;
+            answers.as_slice(),
+            b"0\n1\nrefused 6 at 1\n60 420\n".as_slice()
+        );
+        assert_eq!(rt; books.tally().taken, 3);
+        assert_eq!(rt; books.tally().turned, 1);
+        Ok(())
     }
 }

@@ -29,7 +29,7 @@ unfolding firm.ran
 ran_append l f [] ds = refl
 ran_append l f (c ∷ cs) ds = ran_append l (after l f c) cs ds
 
-printed_append : (xs ys : List Answer) → printed (xs ++ ys) ≡ printed xs ++ printed ys
+pub printed_append : (xs ys : List Answer) → printed (xs ++ ys) ≡ printed xs ++ printed ys
 printed_append [] ys = refl
 printed_append (x ∷ xs) ys = ap (λ (t : List ℕ). shown_line x ++ t) (printed_append xs ys) ∙ sym (append_assoc (shown_line x) (printed xs) (printed ys))
 

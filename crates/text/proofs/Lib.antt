@@ -7,3 +7,4 @@ mod Fated
 pub mod Going
 pub mod Noting
 mod Counting
+mod Streams

@@ -47,7 +47,7 @@ pub heard_noted : (line : List ℕ) (s : State) (room : ℕ) (before after : Tal
 heard_noted line s room before after e h =
     subst (λ (ls : List (List ℕ)). CallsNoted (calls_in ls) s room before after) (sym (cond-false (quiet (bare line)) [] (bare line ∷ []) e)) h
 
-tallied_append : (t : Tally) (xs ys : List Answer) → tallied t (xs ++ ys) ≡ tallied (tallied t xs) ys
+pub tallied_append : (t : Tally) (xs ys : List Answer) → tallied t (xs ++ ys) ≡ tallied (tallied t xs) ys
 tallied_append t [] ys = refl
 tallied_append t (x ∷ xs) ys = tallied_append (noted t x) xs ys
 

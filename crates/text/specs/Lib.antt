@@ -5,4 +5,5 @@ pub mod Standing
 pub mod Noting
 pub mod Fates
 pub mod Books
+pub mod Streaming
 pub mod Statements

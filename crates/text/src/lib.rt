@@ -8,6 +8,7 @@ mod fate;
 mod laws;
 mod lines;
 mod running;
+mod streaming;
 mod tally;
 
 pub use books::Books;
@@ -15,4 +16,5 @@ pub use fate::Fate;
 pub use laws::{line_by_line_stands, tally_counts_stands};
 pub use running::run;
 pub use session::RunError;
+pub use streaming::StreamError;
 pub use tally::{REFUSALS, Tally};
