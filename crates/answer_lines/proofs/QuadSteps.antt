@@ -1,5 +1,5 @@
 -- Lines of four fields, one after the other. Assumes nothing.
-use Rattle.std.proofs.Common.{◌≡◌, ℕ, zero, suc, ◌-◌, ◌/◌, ◌<◌, ◌≤◌, Bool, true, false, cond, List, [], ◌∷◌, ◌++◌, map, length, get_or, take, drop, Some, None, codes, decimal, sym, refl, ap, ◌∙◌, append_assoc, append-nil, arith}
+use Rattle.std.proofs.Common.{◌≡◌, ℕ, zero, suc, ◌-◌, ◌/◌, ◌<◌, ◌≤◌, Bool, true, false, cond, List, [], ◌∷◌, ◌++◌, map, length, get_or, take, drop, Some, None, Ok, Err, codes, decimal, sym, refl, ap, ◌∙◌, append_assoc, append-nil, arith}
 use Rattle.std.specs.List.{flat_map}
 use Rattle.std.proofs.lemmas.List.{take_rest}
 use Rattle.words.specs.Spaced.{another_number, spaced}
@@ -10,7 +10,8 @@ use Rattle.wire.proofs.RowLaws.{field_rows}
 use Rattle.wire.specs.Told.{lots_in, entries_in, if_lines}
 use Rattle.firm.specs.Calls.{Answer, lots, entries}
 use Rattle.answer_lines.specs.Shown.{shown, shown_two, shown_four, shown_list, shown_lot, shown_entry}
-use Rattle.answer_lines.specs.Showings.{shown_if, whole, lines_shown}
+use Rattle.answer_lines.specs.Showings.{shown_if, showing_of, whole, lines_showing, lines_shown}
+use Rattle.answer_lines.specs.declared.error.ShowError.TheVariants.{NoAnswer}
 use Rattle.answer_lines.specs.Quads.{quad_in, quads_in, shown_quad}
 
 -- numbers with spaces between
@@ -79,14 +80,14 @@ unfolding quads_in quad_in entries_in entry_in
 entries_same bs = list_same shown_quad quad_in shown_entry entry_in (λ x. refl) (length bs / 32) bs
 
 -- a list is shown by its lines, if they are whole
-if_whole : (b : Bool) (a : Answer) (s : List ℕ) → s ≡ shown a → cond b s [] ≡ shown_if (cond b (Some a) None)
-if_whole true a s e = e
-if_whole false a s e = refl
+if_whole : (b : Bool) (a : Answer) (s : List ℕ) → s ≡ shown a → (cond b (Ok tt) (Err NoAnswer) ≡ showing_of (cond b (Some a) None)) × (cond b s [] ≡ shown_if (cond b (Some a) None))
+if_whole true a s e = (refl, e)
+if_whole false a s e = (refl, refl)
 
-pub lots_shown : (bs : List ℕ) → lines_shown bs ≡ shown_if (if_lines bs (lots (lots_in bs)))
+pub lots_shown : (bs : List ℕ) → (lines_showing bs ≡ showing_of (if_lines bs (lots (lots_in bs)))) × (lines_shown bs ≡ shown_if (if_lines bs (lots (lots_in bs))))
 unfolding shown
 lots_shown bs = if_whole (whole bs) (lots (lots_in bs)) (shown_list shown_quad (quads_in bs)) (lots_same bs)
 
-pub entries_shown : (bs : List ℕ) → lines_shown bs ≡ shown_if (if_lines bs (entries (entries_in bs)))
+pub entries_shown : (bs : List ℕ) → (lines_showing bs ≡ showing_of (if_lines bs (entries (entries_in bs)))) × (lines_shown bs ≡ shown_if (if_lines bs (entries (entries_in bs))))
 unfolding shown
 entries_shown bs = if_whole (whole bs) (entries (entries_in bs)) (shown_list shown_quad (quads_in bs)) (entries_same bs)

@@ -8,9 +8,9 @@ use Rattle.answer_lines.proofs.show.put_answer.Goals as goal
 pub returns-in_ok-put_lines-in-Lots-clause-text : goal.returns-in_ok-put_lines-in-Lots-clause-text
 returns-in_ok-put_lines-in-Lots-clause-text c =
     c.in_ok-put_lines-in-Lots.ensures.text
-    ∙ ap (λ (s : List ℕ). vec_items c.args.out.now ++ s) (lots_shown c.in-Lots.lines.now ∙ ap (λ (a : Answer). shown_if (told a)) (sym c.in-Lots.is))
+    ∙ ap (λ (s : List ℕ). vec_items c.args.out.now ++ s) ((lots_shown c.in-Lots.lines.now).1 ∙ ap (λ (a : Answer). shown_if (told a)) (sym c.in-Lots.is))
 
 pub returns-in_ok-put_lines-in-Entries-clause-text : goal.returns-in_ok-put_lines-in-Entries-clause-text
 returns-in_ok-put_lines-in-Entries-clause-text c =
     c.in_ok-put_lines-in-Entries.ensures.text
-    ∙ ap (λ (s : List ℕ). vec_items c.args.out.now ++ s) (entries_shown c.in-Entries.lines.now ∙ ap (λ (a : Answer). shown_if (told a)) (sym c.in-Entries.is))
+    ∙ ap (λ (s : List ℕ). vec_items c.args.out.now ++ s) ((entries_shown c.in-Entries.lines.now).1 ∙ ap (λ (a : Answer). shown_if (told a)) (sym c.in-Entries.is))
