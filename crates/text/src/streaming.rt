@@ -13,9 +13,6 @@ use std::io::{BufRead, BufReader, ErrorKind, Read, Write};
 /// So many bytes of answers are written, even where more lines stand ready.
 const MOST_HELD: usize = 65536;
 
-/// Lines that stand ready are answered together, if they have no more bytes than these: what they are answered is held in memory.
-const MOST_READY: usize = 1024;
-
 /// Why a stream is not answered to its end.
 #[derive(Debug, Drop)]
 pub enum StreamError {
@@ -45,18 +42,11 @@ fn put_out<W: Write>(output: &mut W, answers: &mut Vec<u8>) -> Result<(), Stream
     Ok(())
 }
 
-// Where the last line feed of some bytes is.
-fn last_feed(bytes: &[u8]) -> Option<usize>
+// Where the first line feed of some bytes is.
+fn first_feed(bytes: &[u8]) -> Option<usize>
     ensures { IfSome result (λ end. (end < length bytes.now) × (slice_index bytes.now end ≡ 10)) }
 {
-    bytes.iter().rposition(|byte| *byte == b'\n')
-}
-
-// Where the last whole line ends among those that stand ready.
-fn ready_end(ready: &[u8]) -> Option<usize>
-    ensures { IfSome result (λ end. (end < length ready.now) × (slice_index ready.now end ≡ 10)) }
-{
-    last_feed(&ready[..ready.len().min(MOST_READY)])
+    bytes.iter().position(|byte| *byte == b'\n')
 }
 
 // Writes the answers where no line stands ready behind theirs, or where they are many.
@@ -92,7 +82,7 @@ impl Books {
         Ok(true)
     }
 
-    // Appends what the next lines are answered, those that stand ready or else the one that comes; false where there is none.
+    // Appends what the next line is answered, one that stands ready or else the one that comes; false where there is none.
     fn answer_next<R: Read>(
         &mut self,
         input: &mut BufReader<R>,
@@ -101,7 +91,7 @@ impl Books {
     ) -> Result<bool, StreamError>
         ensures { IfOk result (NextAnswered (reader_remaining R.remaining input.old) (reader_remaining R.remaining input.new) self.old self.new answers.old.items answers.new.items) }
     {
-        if let Some(end) = ready_end(input.buffer()) {
+        if let Some(end) = first_feed(input.buffer()) {
             self.answer(&input.buffer()[..end], answers)?;
             input.consume(end + 1);
             return Ok(true);
